@@ -10,6 +10,7 @@ pub mod MergeLemmas
 pub mod NamedLemmas
 pub mod Nesting
 pub mod NumberLemmas
+pub mod NumberTold
 pub mod ParquetCalls
 pub mod PruneLemmas
 pub mod ReadLemmas

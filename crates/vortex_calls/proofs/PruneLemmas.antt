@@ -37,7 +37,7 @@ use Rattle.vortex_calls.specs.declared.fault.Refusal.{Refusal}
 use Rattle.vortex_calls.specs.declared.field.Field.{Field}
 use Rattle.vortex_calls.specs.declared.statistic.Statistic.{Statistic}
 use Rattle.vortex_calls.specs.declared.status.Status.{Status}
-use Rattle.vortex_calls.specs.declared.status.Status.TheVariants.{BadLine, TooShort, NoMemory, BadKind, BadStat, BadKnown, BadLength, BadEnds, BadValue, BadNull, Untrue, BadColumn, BadName, NotAPredicate, BadFlag, TooDeep, BadSql, Misfit}
+use Rattle.vortex_calls.specs.declared.status.Status.TheVariants.{BadLine, TooShort, NoMemory, BadKind, BadStat, BadKnown, BadLength, BadEnds, BadValue, BadNull, Untrue, BadColumn, BadName, NotAPredicate, BadFlag, TooDeep, BadSql, Misfit, BadFooter, NotRead}
 use Rattle.vortex_calls.specs.declared.table.Source.{Source}
 use Rattle.vortex_calls.specs.Prunes.{Asked, FindsNoFewer, IsComplete, IsNoFewer, IsPruned, IsRefused, IsSound, IsWellAsked, answer_by, answered, answers_of, asked, asked_of, proofs_of, table_answers, with_flags, with_places, zones_asked}
 use Rattle.vortex_calls.specs.Refusals.{Answers, followed}
@@ -285,6 +285,8 @@ not_zero BadFlag h = omega (arith, h)
 not_zero TooDeep h = omega (arith, h)
 not_zero BadSql h = omega (arith, h)
 not_zero Misfit h = omega (arith, h)
+not_zero BadFooter h = omega (arith, h)
+not_zero NotRead h = omega (arith, h)
 
 pub refused_pruning : (asked : Result Asked Refusal) (old : List ℕ) (r : Refusal) (n : ℕ) → n ≡ status_number r.status → (r.status ≢ NoMemory → IsRefusedText (followed asked (λ a. Ok (answers_of a))) r) → IsPruned asked old n old r.fault
 refused_pruning asked old r n is h = record {

@@ -4,7 +4,7 @@ use Rattle.vortex_calls.specs.declared.nested.error.NestedError.{NestedError}
 use Rattle.vortex_calls.specs.declared.nested.error.NestedError.TheVariants as nested
 use Rattle.vortex_calls.specs.declared.fault.Refusal.{Refusal}
 use Rattle.vortex_calls.specs.declared.status.Status.{Status}
-use Rattle.vortex_calls.specs.declared.status.Status.TheVariants.{BadLine, TooShort, NoMemory, BadKind, BadStat, BadKnown, BadLength, BadEnds, BadValue, BadNull, Untrue, BadColumn, BadName, NotAPredicate, BadFlag, TooDeep, BadSql, Misfit}
+use Rattle.vortex_calls.specs.declared.status.Status.TheVariants.{BadLine, TooShort, NoMemory, BadKind, BadStat, BadKnown, BadLength, BadEnds, BadValue, BadNull, Untrue, BadColumn, BadName, NotAPredicate, BadFlag, TooDeep, BadSql, Misfit, BadFooter, NotRead}
 
 abbrev pub status_number : Status → ℕ
 status_number BadLine = 2
@@ -25,6 +25,8 @@ status_number BadFlag = 16
 status_number TooDeep = 17
 status_number BadSql = 18
 status_number Misfit = 19
+status_number BadFooter = 20
+status_number NotRead = 21
 
 -- a predicate that isn't read
 abbrev pub status_of_nested : NestedError → Status

@@ -1,5 +1,6 @@
 //! Where a call was refused.
 ghost use Rattle.std.specs.Prelude.{◌≡◌};
+ghost use Rattle.vortex_calls.specs.Prunes.{IsToldAs};
 ghost use Rattle.vortex_calls.specs.Statuses.{at_column, at_entry, at_row, in_column, in_zone};
 
 use crate::status::Status;
@@ -86,6 +87,16 @@ impl Refusal {
             entry,
         };
         Refusal { status, fault }
+    }
+}
+
+impl Refusal {
+    /// Tells where a call was refused. Returns the number of the status.
+    pub(crate) fn tell(self, fault: &mut Fault) -> u8
+        ensures { IsToldAs self result fault.new }
+    {
+        *fault = self.fault;
+        self.status.number()
     }
 }
 

@@ -9,7 +9,7 @@ ghost use Rattle.vortex_calls.specs.Encoding.{AreNumbers, is_number};
 ghost use Rattle.vortex_calls.specs.MapCells as spec;
 ghost use Rattle.vortex_calls.specs.Types.{number_width};
 ghost use Rattle.vortex_zone_map.specs.StatValues.{told_value};
-ghost use Rattle.vortex_stats.specs.declared.precision.Precision.TheVariants.{Exact, Inexact};
+ghost use Rattle.vortex_zone_map.specs.Told.{known_as, told_cell};
 
 use crate::given::fixed;
 use crate::number::{Number, has_numbers, number_at};
@@ -22,6 +22,7 @@ use vortex_base::natives::Natives;
 use vortex_base::pvalue::PValue;
 use vortex_base::types::PType;
 use vortex_stats::precision::Precision;
+use vortex_zone_map::Told;
 
 // The number that stands for a zone.
 #[inline]
@@ -142,24 +143,33 @@ fn tells_value(aggregate: AggregateFnRef) -> bool
     }
 }
 
-// The number that a bound tells, if it does.
+// Says what a number tells for an aggregate of a column of so many rows.
 #[inline]
-fn told_bound<N: Number>(aggregate: AggregateFnRef, bound: N) -> Option<N>
+fn told_of(aggregate: AggregateFnRef, is_exact: bool, number: PValue, rows: u64) -> Told
+    ensures { let value = value.Primitive number in told_cell value result
+        ≡ told_value aggregate (known_as is_exact value) rows }
+{
+    let count = match number {
+        PValue::U64(count) => Some(count),
+        _ => None,
+    };
+    Told::of(aggregate, is_exact, count, rows)
+}
+
+// Returns a number if it is told itself. How many rows there are doesn't matter.
+#[inline]
+fn told_itself<N: Number>(aggregate: AggregateFnRef, is_exact: bool, number: N) -> Option<N>
     requires { spec.tells_value aggregate ≡ true }
     ensures { (rows : ℕ) → option_map N.scalar result
-        ≡ told_value aggregate (Inexact (value.Primitive (N.pvalue bound))) rows }
+        ≡ told_value aggregate (known_as is_exact (value.Primitive (N.pvalue number))) rows }
 {
-    match aggregate {
-        AggregateFnRef::Max | AggregateFnRef::Min => Some(bound),
-        AggregateFnRef::NullCount => match bound.value() {
-            PValue::U64(0) => Some(bound),
-            _ => None,
-        },
-        _ => None,
+    match told_of(aggregate, is_exact, number.value(), 0) {
+        Told::Value => Some(number),
+        Told::Truth(_) | Told::Nothing => None,
     }
 }
 
-// The number that a number tells, if it does.
+// Returns a number that may be absent if it is told itself.
 #[inline]
 fn told_number<N: Number>(aggregate: AggregateFnRef, number: Precision<N>) -> Option<N>
     requires { spec.tells_value aggregate ≡ true }
@@ -167,41 +177,31 @@ fn told_number<N: Number>(aggregate: AggregateFnRef, number: Precision<N>) -> Op
         ≡ told_value aggregate (spec.numbered (spec.seen N.pvalue number)) rows }
 {
     match number {
-        Precision::Exact(number) => Some(number),
-        Precision::Inexact(bound) => told_bound(aggregate, bound),
+        Precision::Exact(number) => told_itself(aggregate, true, number),
+        Precision::Inexact(bound) => told_itself(aggregate, false, bound),
         Precision::Absent => None,
     }
 }
 
-// The truth that a number that is known exactly tells, if it does.
+// Returns the truth that is told of a number, if one is.
 #[inline]
-fn exact_truth(aggregate: AggregateFnRef, number: PValue, rows: u64) -> Option<bool>
+fn told_as_truth(
+    aggregate: AggregateFnRef,
+    is_exact: bool,
+    number: PValue,
+    rows: u64,
+) -> Option<bool>
     requires { spec.tells_value aggregate ≡ false }
     ensures { option_map value.Bool result
-        ≡ told_value aggregate (Exact (value.Primitive number)) rows }
+        ≡ told_value aggregate (known_as is_exact (value.Primitive number)) rows }
 {
-    match (aggregate, number) {
-        (AggregateFnRef::AllNull, PValue::U64(count)) => Some(count == rows),
-        (AggregateFnRef::AllNonNull, PValue::U64(count)) => Some(count == 0),
-        _ => None,
+    match told_of(aggregate, is_exact, number, rows) {
+        Told::Truth(truth) => Some(truth),
+        Told::Value | Told::Nothing => None,
     }
 }
 
-// The truth that a bound tells, if it does.
-#[inline]
-fn inexact_truth(aggregate: AggregateFnRef, number: PValue, rows: u64) -> Option<bool>
-    requires { spec.tells_value aggregate ≡ false }
-    ensures { option_map value.Bool result
-        ≡ told_value aggregate (Inexact (value.Primitive number)) rows }
-{
-    match (aggregate, number) {
-        (AggregateFnRef::AllNull, PValue::U64(count)) if count < rows => Some(false),
-        (AggregateFnRef::AllNonNull, PValue::U64(0)) => Some(true),
-        _ => None,
-    }
-}
-
-// The truth that a number tells, if it does.
+// Returns the truth that is told of a number that may be absent, if one is.
 #[inline]
 fn told_truth<N: Number>(aggregate: AggregateFnRef, number: Precision<N>, rows: u64) -> Option<bool>
     requires { spec.tells_value aggregate ≡ false }
@@ -209,8 +209,8 @@ fn told_truth<N: Number>(aggregate: AggregateFnRef, number: Precision<N>, rows: 
         ≡ told_value aggregate (spec.numbered (spec.seen N.pvalue number)) rows }
 {
     match number {
-        Precision::Exact(number) => exact_truth(aggregate, number.value(), rows),
-        Precision::Inexact(number) => inexact_truth(aggregate, number.value(), rows),
+        Precision::Exact(number) => told_as_truth(aggregate, true, number.value(), rows),
+        Precision::Inexact(number) => told_as_truth(aggregate, false, number.value(), rows),
         Precision::Absent => None,
     }
 }
@@ -375,7 +375,7 @@ fn put_truths_of<N: Number>(
     let source = *source;
     for place in 0..truths.len() {
         let number = standing::<N>(&source, from + place).value();
-        truths[place] = exact_truth(aggregate, number, rows[from + place])?;
+        truths[place] = told_as_truth(aggregate, true, number, rows[from + place])?;
     }
     Some(())
 }

@@ -45,6 +45,10 @@ pub enum Status {
     BadSql,
     /// 19: the types of a test in SQL don't fit.
     Misfit,
+    /// 20: bytes are no footer of a Parquet file.
+    BadFooter,
+    /// 21: a test names a column of which no test could be meant.
+    NotRead,
 }
 
 impl Status {
@@ -71,6 +75,8 @@ impl Status {
             Status::TooDeep => 17,
             Status::BadSql => 18,
             Status::Misfit => 19,
+            Status::BadFooter => 20,
+            Status::NotRead => 21,
         }
     }
 }

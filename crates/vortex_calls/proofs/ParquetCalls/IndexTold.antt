@@ -9,7 +9,8 @@ use Rattle.vortex_parquet.specs.Records.{FileData, file_of}
 use Rattle.vortex_parquet.specs.declared.fault.ReadError.{ReadError}
 use Rattle.vortex_parquet.specs.declared.fault.ReadError.TheVariants as read
 use Rattle.vortex_calls.specs.ParquetCalls.IndexBegins.{IsBeginFound, IsIndexAnswer, IsIndexRefusal}
-use Rattle.vortex_calls.specs.ParquetCalls.Refusals.{IsPut, of_read}
+use Rattle.vortex_calls.specs.ParquetCalls.Refusals.{of_read}
+use Rattle.vortex_calls.specs.Prunes.{IsToldAs}
 
 pub no_footer : (footer : List ℕ) (e : ReadError) → Fails e (file_of footer) → IsIndexRefusal footer e
 no_footer footer read.Memory h = tt
@@ -35,7 +36,7 @@ begin_told footer found old new fault h is = record {
   refused = λ n m. absurd (n refl);
 }
 
-pub begin_untold : (footer : List ℕ) (e : ReadError) (old result : ℕ) (old_fault fault : Fault) → IsPut (of_read e) result fault → IsIndexRefusal footer e → IsIndexAnswer footer old old result old_fault fault
+pub begin_untold : (footer : List ℕ) (e : ReadError) (old result : ℕ) (old_fault fault : Fault) → IsToldAs (of_read e) result fault → IsIndexRefusal footer e → IsIndexAnswer footer old old result old_fault fault
 begin_untold footer read.Memory old result old_fault fault put h =
     let four : result ≡ 4 = put.0 in
     record {

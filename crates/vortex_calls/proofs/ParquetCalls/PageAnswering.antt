@@ -18,12 +18,15 @@ use Rattle.vortex_predicates.specs.Conditions.Conditions.{ProvedCondition}
 use Rattle.vortex_calls.specs.declared.fault.Fault.{Fault}
 use Rattle.vortex_calls.specs.ParquetCalls.FooterPrunes.{IsAskRefusal, IsAsked}
 use Rattle.vortex_calls.specs.ParquetCalls.PagePrunes.{ArePagesPruned, AreRangesFound, AreRangesWritten, AreTooMany, IsAnsweredByPages, PagePlaces, all_ranges}
-use Rattle.vortex_calls.specs.ParquetCalls.Refusals.{IsPut, of_footer}
-use Rattle.vortex_calls.specs.declared.parquet.refusal.Refused.{Refused}
+use Rattle.vortex_calls.specs.ParquetCalls.Refusals.{of_footer}
+use Rattle.vortex_calls.specs.Prunes.{IsToldAs}
+use Rattle.vortex_calls.specs.Statuses.{status_number}
+use Rattle.vortex_calls.specs.declared.fault.Refusal.{Refusal}
+use Rattle.vortex_calls.specs.declared.status.Status.TheVariants.{NoMemory}
+use Rattle.vortex_calls.proofs.PruneLemmas.{not_zero}
 use Rattle.vortex_calls.specs.declared.parquet.row_range.RowRange.{RowRange}
 use Rattle.vortex_calls.proofs.ParquetCalls.Answering.{same_zones}
 use Rattle.vortex_calls.proofs.ParquetCalls.RangesTold.{ranges_told}
-use Rattle.vortex_calls.proofs.ParquetCalls.Refusing.{no_answer}
 
 pub ranges_of : (t : TailData) (file : FileData) (count : ℕ) (ls : List Leaf) (x : ProvedCondition) (rs : List PageRange) (gs : List GroupStats) (vs : List Verdict) (told : List RowRange) → AreStretchesIn t ls count file rs (map group_view gs)
     → vs ≡ zone_verdicts x.falsifier x.satisfier x.scope (map zone_data gs) → PrunesPages x.scope x.condition t ls file rs (skipped_places vs) (whole_places vs) → length rs ≡ length gs → length vs ≡ length gs
@@ -65,15 +68,15 @@ ranges_written t file count ls x old new fault written = record {
 }
 
 -- a fault of the row groups or their pages is told
-pub pages_refused : (t : TailData) (file : FileData) (count : ℕ) (ls : List Leaf) (x : ProvedCondition) (old new : PagePlaces) (result : ℕ) (e : FooterError) → IsPageFault (paged_groups t ls count file) e → IsPut (of_footer e) result new.fault
+pub pages_refused : (t : TailData) (file : FileData) (count : ℕ) (ls : List Leaf) (x : ProvedCondition) (old new : PagePlaces) (result : ℕ) (e : FooterError) → IsPageFault (paged_groups t ls count file) e → IsToldAs (of_footer e) result new.fault
     → new.ranges ≡ old.ranges → new.unread ≡ old.unread → new.found_len ≡ old.found_len → new.unread_len ≡ old.unread_len → IsAnsweredByPages t file count ls x old new result
 pages_refused t file count ls x old new result e fault put ranges unread found unread_len = record {
-  written = λ z. absurd (no_answer e (sym put.0 ∙ z));
+  written = λ z. absurd (not_zero (of_footer e).status (sym put.0 ∙ z));
   ranges = λ z. ranges;
   unread = λ z. unread;
   found_len = λ z n. found;
   unread_len = λ z n. unread_len;
-  told = λ z. absurd (no_answer e (sym put.0 ∙ z));
+  told = λ z. absurd (not_zero (of_footer e).status (sym put.0 ∙ z));
   lack = λ z n. inr (record { error = e; refused = fault; told = put });
 }
 
@@ -91,14 +94,14 @@ pages_answered footer text t flags file count ls x old new result asked h = reco
   refused = λ z n. inr (record { file = file; count = count; ls = ls; condition = x; asked = asked; lack = h.lack z n });
 }
 
-pub pages_not_asked : (footer text : List ℕ) (t : TailData) (flags : ℕ) (old : PagePlaces) (r : Refused) (result : ℕ) (fault : Fault) → (r.status ≡ 0 → ⊥) → (r.status ≢ 4 → IsAskRefusal footer text flags r) → IsPut r result fault
+pub pages_not_asked : (footer text : List ℕ) (t : TailData) (flags : ℕ) (old : PagePlaces) (r : Refusal) (result : ℕ) (fault : Fault) → (r.status ≢ NoMemory → IsAskRefusal footer text flags r) → IsToldAs r result fault
     → ArePagesPruned footer text t flags old (record { ranges = old.ranges; unread = old.unread; found_len = old.found_len; unread_len = old.unread_len; fault = fault }) result
-pages_not_asked footer text t flags old r result fault never cause put = record {
-  answered = λ z. absurd (never (sym put.0 ∙ z));
+pages_not_asked footer text t flags old r result fault cause put = record {
+  answered = λ z. absurd (not_zero r.status (sym put.0 ∙ z));
   ranges = λ z. refl;
   unread = λ z. refl;
   found_len = λ z n. refl;
   unread_len = λ z n. refl;
-  told = λ z. absurd (never (sym put.0 ∙ z));
-  refused = λ z n. inl (record { refusal = r; cause = cause (λ four. n (put.0 ∙ four)); told = put });
+  told = λ z. absurd (not_zero r.status (sym put.0 ∙ z));
+  refused = λ z n. inl (record { refusal = r; cause = cause (λ memory. n (put.0 ∙ ap status_number memory)); told = put });
 }

@@ -8,7 +8,8 @@ use Rattle.vortex_parquet.specs.Reading.{◌>>=◌}
 use Rattle.vortex_parquet.specs.Records.{ElementData, file_of}
 use Rattle.vortex_parquet.specs.declared.data_pages.DataPage.{DataPage}
 use Rattle.vortex_parquet.specs.declared.fault.Fault.{Fault as FooterFault}
-use Rattle.vortex_calls.specs.ParquetCalls.Refusals.{IsPut, bad_footer}
+use Rattle.vortex_calls.specs.Prunes.{IsToldAs}
+use Rattle.vortex_calls.specs.ParquetCalls.Refusals.{bad_footer}
 
 -- how many leaf columns a schema has
 unfoldable pub leaf_count : List ElementData → Result ℕ FooterFault
@@ -45,4 +46,4 @@ pub record ArePagesTold (footer : List ℕ) (t : TailData) (old new : PageArray)
   pub pages : result ≢ 0 → new.pages ≡ old.pages
   pub found_len : result ≢ 0 → result ≢ 3 → new.found_len ≡ old.found_len
   pub short : result ≡ 3 → AreTooManyPages footer t old new
-  pub refused : result ≢ 0 → result ≢ 3 → result ≢ 4 → (f : FooterFault) × (told_pages footer t ≡ Err f) × IsPut (bad_footer f) result new.fault
+  pub refused : result ≢ 0 → result ≢ 3 → result ≢ 4 → (f : FooterFault) × (told_pages footer t ≡ Err f) × IsToldAs (bad_footer f) result new.fault

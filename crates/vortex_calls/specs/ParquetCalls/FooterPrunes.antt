@@ -1,8 +1,8 @@
 -- What a caller asks to be pruned by a footer, and what is answered.
-use Rattle.std.specs.Prelude.{◌≡◌, ◌≢◌, ◌<◌, ◌++◌, ◌==◌, ◌⊎◌, ℕ, List, [], ◌∷◌, Option, Some, None, Result, Ok, Err, drop, false, if◌then◌else◌, length, map}
-use Rattle.std.specs.Str.{IsUtf8, IsValidUpTo}
+use Rattle.std.specs.Prelude.{◌≡◌, ◌≢◌, ◌<◌, ◌++◌, ◌⊎◌, ℕ, List, [], ◌∷◌, Option, Some, None, Ok, Err, drop, false, length, map}
+use Rattle.std.specs.Str.{IsUtf8}
 use Rattle.vortex_calls.specs.Spans.{leaf_span}
-use Rattle.vortex_calls.specs.Prunes.{answer_of}
+use Rattle.vortex_calls.specs.Prunes.{IsToldAs, answer_of}
 use Rattle.vortex_calls.specs.declared.fault.Fault.{Fault}
 use Rattle.vortex_predicates.specs.Pruning.{skipped_places, whole_places}
 use Rattle.vortex_parquet.specs.Columns.{ColumnView, columns_of}
@@ -25,10 +25,9 @@ use Rattle.vortex_predicates.specs.Conditions.Conditions.{ProvedCondition}
 use Rattle.vortex_sql.specs.Parsing.Joining.{Joins, ands}
 use Rattle.vortex_sql.specs.Parsing.Places.{Ascends, leaves}
 use Rattle.vortex_sql.specs.declared.syntax.tree.Leaf.{Leaf as Leaf'}
-use Rattle.vortex_sql.specs.declared.syntax.cursor.Names.{Names}
-use Rattle.vortex_sql.specs.declared.syntax.cursor.Names.TheVariants.{Last, Plain}
-use Rattle.vortex_calls.specs.ParquetCalls.Refusals.{IsPut, bad_flag, bad_footer, no_text, of_footer}
-use Rattle.vortex_calls.specs.declared.parquet.refusal.Refused.{Refused}
+use Rattle.vortex_calls.specs.ParquetCalls.Refusals.{bad_footer, of_footer}
+use Rattle.vortex_calls.specs.SqlCalls.SqlPrunes.{IsNoText, names_of}
+use Rattle.vortex_calls.specs.declared.fault.Refusal.{Refusal}
 use Rattle.vortex_calls.specs.declared.parquet.row_group.RowGroup.{RowGroup}
 use Rattle.vortex_calls.specs.declared.span.Span.{Span}
 
@@ -39,23 +38,12 @@ pub record IsLengthTold (tail : List ℕ) (old new : ℕ) (result : ℕ) (old_fa
   pub told : result ≡ 0 → length_of tail ≡ Ok new
   pub silent : result ≡ 0 → fault ≡ old_fault
   pub unchanged : result ≢ 0 → new ≡ old
-  pub refused : result ≢ 0 → result ≢ 4 → (f : FooterFault) × (length_of tail ≡ Err f) × IsPut (bad_footer f) result fault
+  pub refused : result ≢ 0 → result ≢ 4 → (f : FooterFault) × (length_of tail ≡ Err f) × IsToldAs (bad_footer f) result fault
 
 -- ---- what is asked
 
--- 0 for names of one part, 2 for those of several of which the last one counts
-abbrev pub names_of : ℕ → Result Names Refused
-names_of flags = if flags == 0 then Ok Plain else (if flags == 2 then Ok Last else Err bad_flag)
-
 abbrev pub IsText : List ℕ → Type 0
 IsText bytes = IsUtf8 bytes
-
--- the bytes aren't UTF-8 from a place on, which is told
-pub record IsNoText (bytes : List ℕ) (r : Refused) : Type 0 where
-  pub at : ℕ
-  pub until : IsValidUpTo bytes at
-  pub no_utf8 : ¬ (IsUtf8 bytes)
-  pub told : r ≡ no_text at
 
 -- the bytes are a footer, and the text is a condition over its columns: over those that are named and read, beside their leaves; no name refuses it, and its types fit
 pub record IsAsked (footer text : List ℕ) (file : FileData) (count : ℕ) (ls : List Leaf) (x : ProvedCondition) : Type 0 where
@@ -69,13 +57,13 @@ pub record IsAsked (footer text : List ℕ) (file : FileData) (count : ℕ) (ls 
   pub typed : misfits x.scope x.condition ≡ []
 
 -- the bytes are no footer, or one whose schema is no tree
-pub record IsFooterRefusal (footer : List ℕ) (r : Refused) : Type 0 where
+pub record IsFooterRefusal (footer : List ℕ) (r : Refusal) : Type 0 where
   pub fault : FooterFault
   pub told : r ≡ bad_footer fault
   pub cause : (file_of footer ≡ Err fault) ⊎ ((file : FileData) × (file_of footer ≡ Ok file) × (columns_of file.schema ≡ Err fault))
 
 -- the bytes are a footer, and the text is no condition over its columns
-pub record IsTextRefusal (footer text : List ℕ) (r : Refused) : Type 0 where
+pub record IsTextRefusal (footer text : List ℕ) (r : Refusal) : Type 0 where
   pub file : FileData
   pub read : file_of footer ≡ Ok file
   pub columns : List ColumnView
@@ -84,7 +72,7 @@ pub record IsTextRefusal (footer text : List ℕ) (r : Refused) : Type 0 where
   pub cause : IsNoText text r ⊎ (IsText text × (e : FooterError) × IsToldOf columns text e × (r ≡ of_footer e))
 
 -- why nothing is asked, in this order: the flags, the footer, the text
-abbrev pub IsAskRefusal : (footer text : List ℕ) → ℕ → Refused → Type 0
+abbrev pub IsAskRefusal : (footer text : List ℕ) → ℕ → Refusal → Type 0
 IsAskRefusal footer text flags r = (names_of flags ≡ Err r) ⊎ (IsFooterRefusal footer r ⊎ IsTextRefusal footer text r)
 
 -- ---- what isn't read
@@ -149,7 +137,7 @@ pub record IsShort (file : FileData) (x : ProvedCondition) (groups : List RowGro
 pub record AreGroupsRefused (file : FileData) (count : ℕ) (ls : List Leaf) (result : ℕ) (fault : Fault) : Type 0 where
   pub error : FooterError
   pub refused : IsGroupFault (groups_of ls count file) error
-  pub told : IsPut (of_footer error) result fault
+  pub told : IsToldAs (of_footer error) result fault
 
 abbrev pub IsLack : FileData → ℕ → List Leaf → ProvedCondition → Places → ℕ → Places → Type 0
 IsLack file count ls x old result new =
@@ -184,9 +172,9 @@ pub record IsLackOfAsked (footer text : List ℕ) (groups : List RowGroup) (unre
   pub lack : ((result ≡ 3) × IsShort file condition groups unread found_len unread_len) ⊎ AreGroupsRefused file count ls result fault
 
 pub record IsAskTold (footer text : List ℕ) (flags result : ℕ) (fault : Fault) : Type 0 where
-  pub refusal : Refused
+  pub refusal : Refusal
   pub cause : IsAskRefusal footer text flags refusal
-  pub told : IsPut refusal result fault
+  pub told : IsToldAs refusal result fault
 
 -- why a call was refused but for memory, in this order: what is asked, too little room, the row groups
 abbrev pub IsRefusedFor : (footer text : List ℕ) → ℕ → List RowGroup → List Span → (result found_len unread_len : ℕ) → Fault → Type 0

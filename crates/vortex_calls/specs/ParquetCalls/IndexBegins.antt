@@ -7,7 +7,8 @@ use Rattle.vortex_parquet.specs.Records.{FileData, file_of}
 use Rattle.vortex_parquet.specs.declared.fault.Fault.{Fault as FooterFault}
 use Rattle.vortex_parquet.specs.declared.fault.ReadError.{ReadError}
 use Rattle.vortex_parquet.specs.declared.fault.ReadError.TheVariants as read
-use Rattle.vortex_calls.specs.ParquetCalls.Refusals.{IsPut, bad_footer}
+use Rattle.vortex_calls.specs.Prunes.{IsToldAs}
+use Rattle.vortex_calls.specs.ParquetCalls.Refusals.{bad_footer}
 
 -- the bytes are a footer, and this is the least offset of an index that it names, or none where it names none
 pub record IsBeginFound (footer : List ℕ) (found : Option ℕ) : Type 0 where
@@ -34,4 +35,4 @@ pub record IsIndexAnswer (footer : List ℕ) (old new : ℕ) (result : ℕ) (old
   pub told : result ≡ 0 → IsBeginTold footer new
   pub silent : result ≡ 0 → fault ≡ old_fault
   pub unchanged : result ≢ 0 → new ≡ old
-  pub refused : result ≢ 0 → result ≢ 4 → (f : FooterFault) × IsIndexFault footer f × IsPut (bad_footer f) result fault
+  pub refused : result ≢ 0 → result ≢ 4 → (f : FooterFault) × IsIndexFault footer f × IsToldAs (bad_footer f) result fault

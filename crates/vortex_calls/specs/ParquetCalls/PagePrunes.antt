@@ -1,7 +1,7 @@
 -- What a caller asks to be pruned by the pages of a file, and what is answered.
 use Rattle.std.specs.Prelude.{◌≡◌, ◌≢◌, ◌<◌, ◌++◌, ◌⊎◌, ℕ, List, [], ◌∷◌, drop, length, map}
 use Rattle.vortex_calls.specs.Spans.{leaf_span}
-use Rattle.vortex_calls.specs.Prunes.{answer_of}
+use Rattle.vortex_calls.specs.Prunes.{IsToldAs, answer_of}
 use Rattle.vortex_calls.specs.declared.fault.Fault.{Fault}
 use Rattle.vortex_predicates.specs.Pruning.{skipped_places, whole_places}
 use Rattle.vortex_parquet.specs.GroupPages.{TailData}
@@ -16,7 +16,7 @@ use Rattle.vortex_prune.specs.Scanning.ZoneScans.{zone_verdicts}
 use Rattle.vortex_prune.specs.declared.scan.verdict.Verdict.{Verdict}
 use Rattle.vortex_predicates.specs.Conditions.Conditions.{ProvedCondition}
 use Rattle.vortex_calls.specs.ParquetCalls.FooterPrunes.{IsAskTold, IsAsked, known_zone, unread_leaves}
-use Rattle.vortex_calls.specs.ParquetCalls.Refusals.{IsPut, of_footer}
+use Rattle.vortex_calls.specs.ParquetCalls.Refusals.{of_footer}
 use Rattle.vortex_calls.specs.declared.parquet.row_range.RowRange.{RowRange}
 use Rattle.vortex_calls.specs.declared.span.Span.{Span}
 
@@ -71,7 +71,7 @@ pub record AreTooMany (t : TailData) (file : FileData) (count : ℕ) (ls : List 
 pub record ArePagesRefused (t : TailData) (file : FileData) (count : ℕ) (ls : List Leaf) (result : ℕ) (fault : Fault) : Type 0 where
   pub error : FooterError
   pub refused : IsPageFault (paged_groups t ls count file) error
-  pub told : IsPut (of_footer error) result fault
+  pub told : IsToldAs (of_footer error) result fault
 
 abbrev pub IsPageLack : TailData → FileData → ℕ → List Leaf → ProvedCondition → PagePlaces → ℕ → PagePlaces → Type 0
 IsPageLack t file count ls x old result new = ((result ≡ 3) × AreTooMany t file count ls x old new) ⊎ ArePagesRefused t file count ls result new.fault

@@ -6,7 +6,7 @@ ghost use Rattle.vortex_parquet.specs.Reading.{Gives};
 ghost use Rattle.vortex_parquet.specs.Records.{element_view};
 
 use crate::fault::Fault;
-use crate::parquet::refusal::{of_read, put};
+use crate::parquet::refusal::of_read;
 use crate::status::Status;
 use std::alloc::Global;
 use vortex_parquet::ReadError;
@@ -72,6 +72,6 @@ pub fn data_pages(
             put_pages(&found, pages);
             0
         }
-        Err(error) => put(of_read(error), fault),
+        Err(error) => of_read(error).tell(fault),
     }
 }

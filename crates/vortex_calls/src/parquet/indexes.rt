@@ -3,7 +3,7 @@ ghost use Rattle.std.specs.Prelude.{IfErr, IfOk};
 ghost use Rattle.vortex_calls.specs.ParquetCalls.IndexBegins as spec;
 
 use crate::fault::Fault;
-use crate::parquet::refusal::{of_read, put};
+use crate::parquet::refusal::of_read;
 use std::alloc::Global;
 use vortex_parquet::records::file_of;
 use vortex_parquet::{ReadError, page_indexes};
@@ -29,6 +29,6 @@ pub fn indexes_begin(alloc: Global, footer: &[u8], begin: &mut u64, fault: &mut 
             *begin = found.unwrap_or(u64::MAX);
             0
         }
-        Err(error) => put(of_read(error), fault),
+        Err(error) => of_read(error).tell(fault),
     }
 }

@@ -8,7 +8,7 @@ ghost use Rattle.vortex_predicates.specs.Footers.Refusals.{IsGroupFault};
 
 use crate::fault::Fault;
 use crate::parquet::asked::{Asked, asked_of};
-use crate::parquet::refusal::{of_footer, put};
+use crate::parquet::refusal::of_footer;
 use crate::parquet::row_group::{RowGroup, all_told, put_groups};
 use crate::span::{Span, put_spans, spans_of};
 use crate::status::Status;
@@ -79,7 +79,7 @@ fn answered(
             put_spans(&found.unread, unread);
             0
         }
-        Err(error) => put(of_footer(error), fault),
+        Err(error) => of_footer(error).tell(fault),
     }
 }
 
@@ -119,6 +119,6 @@ pub fn prune_footer(
 {
     match asked_of(alloc, footer, text, flags) {
         Ok(asked) => answered(alloc, &asked, groups, unread, found_len, unread_len, fault),
-        Err(refused) => put(refused, fault),
+        Err(refusal) => refusal.tell(fault),
     }
 }

@@ -10,7 +10,7 @@ ghost use Rattle.vortex_predicates.specs.Footers.PagedGroups.{paged_groups};
 
 use crate::fault::Fault;
 use crate::parquet::asked::{Asked, asked_of};
-use crate::parquet::refusal::{of_footer, put};
+use crate::parquet::refusal::of_footer;
 use crate::parquet::row_range::{RowRange, all_ranges, put_ranges};
 use crate::span::{Span, put_spans, spans_of};
 use crate::status::Status;
@@ -81,7 +81,7 @@ fn answered(
             put_spans(&found.unread, unread);
             0
         }
-        Err(error) => put(of_footer(error), fault),
+        Err(error) => of_footer(error).tell(fault),
     }
 }
 
@@ -132,6 +132,6 @@ pub fn prune_pages(
                 alloc, &asked, tail, ranges, unread, found_len, unread_len, fault,
             )
         }
-        Err(refused) => put(refused, fault),
+        Err(refusal) => refusal.tell(fault),
     }
 }

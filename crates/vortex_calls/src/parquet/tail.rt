@@ -2,7 +2,7 @@
 ghost use Rattle.vortex_calls.specs.ParquetCalls.FooterPrunes as spec;
 
 use crate::fault::Fault;
-use crate::parquet::refusal::{of_read, put};
+use crate::parquet::refusal::of_read;
 use vortex_parquet::footer::length_of;
 
 /// Tells by the last eight bytes of a file how many bytes stand before these in its footer,
@@ -16,6 +16,6 @@ pub fn footer_length(tail: &[u8], length: &mut usize, fault: &mut Fault) -> u8
             *length = found as usize;
             0
         }
-        Err(refused) => put(of_read(refused), fault),
+        Err(refused) => of_read(refused).tell(fault),
     }
 }

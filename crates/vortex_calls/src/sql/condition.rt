@@ -1,5 +1,6 @@
 //! The condition that a caller writes.
 ghost use Rattle.std.specs.Prelude.{◌≡◌, ◌≢◌, IfErr, IfOk};
+ghost use Rattle.std.specs.Str.{IsUtf8};
 ghost use Rattle.vortex_calls.specs.Prunes.{AreClosed};
 ghost use Rattle.vortex_calls.specs.declared.status.Status.TheVariants.{NoMemory};
 ghost use Rattle.vortex_calls.specs.SqlCalls.SqlPrunes as spec;
@@ -13,6 +14,29 @@ use vortex_base::scope::Scope;
 use vortex_predicates::{ConditionError, PruningCondition};
 use vortex_prune::Rules;
 use vortex_sql::syntax::parse::Names;
+
+/// Returns how names of several parts are read, or refuses a flag that isn't known.
+pub(crate) fn names_of(flags: u8) -> Result<Names, Refusal>
+    ensures { result ≡ spec.names_of flags }
+{
+    match flags {
+        0 => Ok(Names::Plain),
+        2 => Ok(Names::Last),
+        _ => Err(Refusal::at_entry(Status::BadFlag, 0)),
+    }
+}
+
+/// Returns the text that bytes are, or refuses them at the first that isn't UTF-8.
+pub(crate) fn text_of(bytes: &[u8]) -> Result<&str, Refusal>
+    ensures text { IfOk result (λ text. text.now ≡ bytes.now) }
+    ensures utf8 { IfOk result (λ text. IsUtf8 bytes.now) }
+    ensures refused { IfErr result (spec.IsNoText bytes.now) }
+{
+    match str::from_utf8(bytes) {
+        Ok(text) => Ok(text),
+        Err(fault) => Err(no_text(fault.valid_up_to())),
+    }
+}
 
 // Returns why no proofs are made by built-in rules.
 fn refusal_of(error: ConditionError) -> Refusal
@@ -36,10 +60,7 @@ pub(crate) fn condition_given(
     ensures refused { IfErr result (λ r. r.status ≢ NoMemory
         → spec.IsTextFault text.now scope.now r) }
 {
-    let text = match str::from_utf8(text) {
-        Ok(text) => text,
-        Err(fault) => return Err(no_text(fault.valid_up_to())),
-    };
+    let text = text_of(text)?;
     let rules = Rules::builtin(alloc);
     match PruningCondition::try_new(alloc, text, scope, names, &rules) {
         Ok(condition) => Ok(condition),

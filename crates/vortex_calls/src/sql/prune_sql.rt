@@ -1,6 +1,6 @@
 //! The answers for the zones of a table under a condition in SQL.
 ghost use Rattle.std.specs.Prelude.{◌≡◌, ◌≢◌, IfOk, length};
-ghost use Rattle.vortex_calls.specs.Prunes.{AreClosed, IsToldAs, table_answers, zones_asked};
+ghost use Rattle.vortex_calls.specs.Prunes.{AreClosed, table_answers, zones_asked};
 ghost use Rattle.vortex_calls.specs.Refusals.{Answers};
 ghost use Rattle.vortex_calls.specs.SqlCalls.SqlPrunes as spec;
 
@@ -8,24 +8,13 @@ use crate::by_proofs::answers_by_proofs;
 use crate::fault::{Fault, Refusal};
 use crate::field::{Field, scope_given};
 use crate::span::{Span, put_places};
-use crate::sql::condition::condition_given;
+use crate::sql::condition::{condition_given, names_of};
 use crate::statistic::Statistic;
 use crate::status::Status;
 use std::alloc::Global;
 use vortex_base::scope::Scope;
 use vortex_predicates::PruningCondition;
 use vortex_sql::syntax::parse::Names;
-
-// Returns how names of several parts are read, or refuses a flag that isn't known.
-fn names_of(flags: u8) -> Result<Names, Refusal>
-    ensures { result ≡ spec.names_of flags }
-{
-    match flags {
-        0 => Ok(Names::Plain),
-        2 => Ok(Names::Last),
-        _ => Err(Refusal::at_entry(Status::BadFlag, 0)),
-    }
-}
 
 // Returns the scope of the condition, and how it writes names.
 fn scope_asked(
@@ -61,14 +50,6 @@ fn condition_answers(
     answers_by_proofs(alloc, condition.scope(), condition.proofs(), rows, stats)
 }
 
-// Tells a refusal. The status of the call.
-fn told(refusal: Refusal, fault: &mut Fault) -> u8
-    ensures { IsToldAs refusal result fault.new }
-{
-    *fault = refusal.fault;
-    refusal.status.number()
-}
-
 // Answers by a condition, and tells which leaves of it aren't read.
 fn answered(
     alloc: Global,
@@ -99,7 +80,7 @@ fn answered(
             put_places(places, unread);
             0
         }
-        Err(refusal) => told(refusal, fault),
+        Err(refusal) => refusal.tell(fault),
     }
 }
 
@@ -140,10 +121,10 @@ pub fn prune_sql(
         Ok((scope, names)) => {
             let condition = match condition_given(alloc, &scope, text, names) {
                 Ok(condition) => condition,
-                Err(refusal) => return told(refusal, fault),
+                Err(refusal) => return refusal.tell(fault),
             };
             answered(alloc, &condition, rows, stats, answers, unread, len, fault)
         }
-        Err(refusal) => told(refusal, fault),
+        Err(refusal) => refusal.tell(fault),
     }
 }

@@ -7,8 +7,8 @@ use crate::status::Status;
 use vortex_sql::error::SqlError;
 use vortex_sql::syntax::error::ParseError;
 
-// Returns the place from a byte of a text on up to another, with a number that says why.
-fn in_text(start: usize, end: usize, why: usize) -> Fault
+/// Returns the place from a byte of a text on up to another, with a number that says why.
+pub(crate) fn in_text(start: usize, end: usize, why: usize) -> Fault
     ensures { result ≡ spec.in_text start end why }
 {
     Fault {
