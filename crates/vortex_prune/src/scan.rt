@@ -32,6 +32,7 @@ mod select;
 mod sides;
 mod strings;
 pub mod verdict;
+mod within;
 pub mod zones;
 
 use crate::bind::stat_binder::StatBinder;

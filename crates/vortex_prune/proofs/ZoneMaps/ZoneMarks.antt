@@ -52,7 +52,7 @@ either_is None None = refl
 and_true : (a b : Option ScalarValue) → is_true (truth_value (both (truth a) (truth b))) ≡ (is_true a && is_true b)
 and_true a b = value_is (both (truth a) (truth b)) ∙ both_is (truth a) (truth b) ∙ ap (λ x. x && some_true (truth b)) (truth_is a) ∙ ap (λ x. is_true a && x) (truth_is b)
 
-both_true : (s t : Option Bool) → is_true (truth_value (both s t)) ≡ (is_true (truth_value s) && is_true (truth_value t))
+pub both_true : (s t : Option Bool) → is_true (truth_value (both s t)) ≡ (is_true (truth_value s) && is_true (truth_value t))
 both_true s t = value_is (both s t) ∙ both_is s t ∙ ap (λ x. x && some_true t) (sym (value_is s)) ∙ ap (λ x. is_true (truth_value s) && x) (sym (value_is t))
 
 or_true : (a b : Option ScalarValue) → is_true (truth_value (either (truth a) (truth b))) ≡ (is_true a || is_true b)

@@ -1,5 +1,5 @@
 -- Leaves of a predicate, which ask something of the values of one column.
-use Rattle.std.specs.Prelude.{◌≡◌, ℕ, Bool, true, false, not as not_b, List, Option, Some, is_none, slice_get}
+use Rattle.std.specs.Prelude.{◌≡◌, ℕ, Bool, true, false, not as not_b, ◌&&◌, List, Option, Some, is_none, slice_get}
 use Rattle.vortex_base.specs.declared.scalar_value.ScalarValue.{ScalarValue}
 use Rattle.vortex_base.specs.declared.scalar_value.ScalarValue.TheVariants as value
 use Rattle.vortex_expr.specs.declared.like.LikeOptions.{LikeOptions}
@@ -10,8 +10,9 @@ use Rattle.vortex_base.specs.Data.Columns.{ColumnData, row_of, value_at}
 use Rattle.vortex_base.specs.Data.Scalars.{Constant}
 use Rattle.vortex_expr.specs.Meanings.Meaning.{compared, is_true, liked, meaning, satisfies, truth_value}
 use Rattle.vortex_expr.specs.Trees.Tree.{Tree, Place}
+use Rattle.vortex_prune.specs.declared.scan.leaf.End.{End}
 use Rattle.vortex_prune.specs.declared.scan.leaf.Test.{Test}
-use Rattle.vortex_prune.specs.declared.scan.leaf.Test.TheVariants.{Is, Like, Null, NotNull}
+use Rattle.vortex_prune.specs.declared.scan.leaf.Test.TheVariants.{Is, Within, Like, Null, NotNull}
 
 -- the operator compares its sides
 abbrev pub is_comparison : Operator → Bool
@@ -35,13 +36,22 @@ compares o a b = is_true (truth_value (compared o a b))
 abbrev pub compares_at : Operator → ScalarValue → List (Option ScalarValue) → ℕ → Bool
 compares_at o v xs r = compares o (value_at (slice_get xs r)) (Some v)
 
+-- that of it with two values, one after the other
+abbrev pub compares_with_both_at : (first second : Operator) → (v w : ScalarValue) → List (Option ScalarValue) → ℕ → Bool
+compares_with_both_at o p v w xs r = compares_at o v xs r && compares_at p w xs r
+
 -- the match of an optional text with an optional pattern is true
 abbrev pub likes : LikeOptions → (text pattern : Option ScalarValue) → Bool
 likes o t p = is_true (truth_value (liked o t p))
 
+-- an optional value meets an end: it compares so with the end's value
+abbrev pub meets : End → Option ScalarValue → Bool
+meets e x = compares e.operator x (Some (value_of e.value))
+
 -- an optional value passes
 abbrev pub passes : Test → Option ScalarValue → Bool
 passes (Is o v) x = compares o x (Some (value_of v))
+passes (Within a b) x = meets a x && meets b x
 passes (Like o p) x = likes o x (Some (value.Utf8 p.now))
 passes Null x = is_none x
 passes NotNull x = not_b (is_none x)
@@ -61,6 +71,14 @@ IsValue e v = (row : List Constant) (n : ℕ) → meaning e row n ≡ Some v
 -- the comparison of two expressions is true on exactly those rows where the column's value passes
 abbrev pub IsComparison : List ColumnData → Operator → (left right : Tree Place) → ColumnData → Test → Type 0
 IsComparison cs o left right c t = (r n : ℕ) → compares o (meaning left (row_of r cs) n) (meaning right (row_of r cs) n) ≡ passes_at t c.values r
+
+-- both ends are met by exactly those optional values that pass
+abbrev pub IsPair : (first second : End) → Test → Type 0
+IsPair a b t = (x : Option ScalarValue) → (meets a x && meets b x) ≡ passes t x
+
+-- two expressions are both true on exactly those rows where the column's value passes
+abbrev pub AreBoth : List ColumnData → (left right : Tree Place) → ColumnData → Test → Type 0
+AreBoth cs left right c t = (r n : ℕ) → (satisfies left (row_of r cs) n && satisfies right (row_of r cs) n) ≡ passes_at t c.values r
 
 -- the match of a text with a pattern is true on exactly those rows where the column's value passes
 abbrev pub IsLike : List ColumnData → LikeOptions → (text pattern : Tree Place) → ColumnData → Test → Type 0

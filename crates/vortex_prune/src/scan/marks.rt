@@ -1,8 +1,8 @@
 //! On which rows of a table an expression is true, a truth a row, found for many rows together: a
 //! leaf goes over the values of its column, AND and OR over the marks that their sides leave, and
 //! any other expression over the rows. The rows are those of a part, or a map's, one a zone.
-ghost use Rattle.std.specs.Prelude.{◌≡◌, ◌+◌, ◌<◌, ◌≤◌, ◌&&◌, IfOk, Some, length};
-ghost use Rattle.std.specs.Prelude.{option_copied, vec_len};
+ghost use Rattle.std.specs.Prelude.{◌≡◌, ◌+◌, ◌<◌, ◌≤◌, ◌&&◌, IfOk, IsTrue, Some, length};
+ghost use Rattle.std.specs.Prelude.{false, option_copied, vec_len};
 ghost use Rattle.std.specs.List.{list_any};
 ghost use Rattle.vortex_base.specs.Data.Columns.{row_count};
 ghost use Rattle.vortex_expr.specs.Trees.Tree.{between, binary};
@@ -15,6 +15,7 @@ use crate::scan::columns::keep_passing;
 use crate::scan::gaps::{Gap, asked, keep_passed, put_beside, put_gap, put_in_order};
 use crate::scan::leaf::{compared, leaf_of};
 use crate::scan::search::keep_ordered;
+use crate::scan::within::within_of;
 use std::alloc::{AllocError, Global};
 use vortex_base::chunk::Chunk;
 use vortex_expr::bound_expression::BoundExpression;
@@ -93,6 +94,24 @@ fn keep_asked(table: Table<'_>, e: &BoundExpression, from: usize, marks: &mut [b
     }
 }
 
+// Keeps marks by the values of a column, if the expression is two comparisons of these. Returns
+// whether it is, and leaves the marks as they are if it isn't.
+fn keep_within(table: Table<'_>, e: &BoundExpression, from: usize, marks: &mut [bool]) -> bool
+    requires { from + length marks.old ≤ row_count table.chunk.now.columns }
+    ensures kept { let test = is_true_at e.now table.entry.chunk.now.columns table.entry.counts in
+        IsTrue result → marks.new ≡ marked test from marks.old }
+    ensures same { result ≡ false → marks.new ≡ marks.old }
+{
+    let _rows = table.chunk.rows();
+    match within_of(table.chunk, e) {
+        Some(leaf) => {
+            keep_passing(leaf.column, leaf.test, from, marks);
+            true
+        }
+        None => false,
+    }
+}
+
 // Keeps the marks of a BETWEEN, which is a comparison with each end.
 fn keep_between(
     table: Table<'_>,
@@ -110,6 +129,9 @@ fn keep_between(
         marks.new ≡ marked test from marks.old }
 {
     let _rows = table.chunk.rows();
+    if keep_within(table, e, from, marks) {
+        return;
+    }
     let (low, high) = (
         options.lower_strict.to_operator(),
         options.upper_strict.to_operator(),
@@ -363,6 +385,9 @@ fn gather<'a>(
 {
     match e.parts() {
         Parts::Binary(Operator::And, left, right) => {
+            if keep_within(table, e, from, marks) {
+                return;
+            }
             gather(alloc, table, searched, left, from, marks, gaps);
             gather(alloc, table, searched, right, from, marks, gaps);
         }

@@ -52,8 +52,8 @@ pub(crate) fn upper(operator: Operator) -> Operator
     }
 }
 
-// A column beside a literal, on either side.
-fn beside<'a>(
+/// A column beside a literal, on either side.
+pub(crate) fn beside<'a>(
     chunk: &'a Chunk,
     operator: Operator,
     left: &'a BoundExpression,

@@ -1,5 +1,4 @@
 use Rattle.std.proofs.Common.{◌∙◌, rules, sym}
-use Rattle.std.specs.Ordering.{is_eq}
 use Rattle.vortex_base.proofs.Data.OrderLemmas.{value_cmp-ties}
 use Rattle.vortex_base.specs.Data.Cells.{value_of}
 use Rattle.vortex_prune.proofs.Scanning.GapOrder.{equal_of}

@@ -15,13 +15,18 @@ gather-returns-then-put_gap-clause-gathered t c =
     gathered_put c.args.table.chunk.now.columns c.args.table.counts c.args.from c.args.e.now k.left.now k.right.now c.args.gaps.now.items c.put_gap.new.gaps.items c.args.marks.now is
     (c.put_gap.ensures.taken c.if-put_gap.true)
 
-pub gather-returns-in-Binary-And-default-default-clause-gathered : goal.gather-returns-in-Binary-And-default-default-clause-gathered
-gather-returns-in-Binary-And-default-default-clause-gathered t c =
+pub gather-returns-else-keep_within-clause-gathered : goal.gather-returns-else-keep_within-clause-gathered
+gather-returns-else-keep_within-clause-gathered t c =
     let k = c.in-Binary-And-default-default in
     let last = c.gather-in-Binary-And-default-default in
     let is : c.args.e.now ≡ binary And k.left.now k.right.now = cc (k.ensures, k.field-0-is) in
-    gathered_and c.args.table.chunk.now.columns c.args.table.counts c.args.from c.args.e.now k.left.now k.right.now c.args.gaps.now.items c.gather.new.gaps.items last.new.gaps.items
-    c.args.marks.now c.gather.new.marks last.new.marks is c.gather.ensures.gathered last.ensures.gathered
+    let cs = c.args.table.chunk.now.columns in
+    let counts = c.args.table.counts in
+    let gaps = c.args.gaps.now.items in
+    let first : IsGathered cs counts (is_true_at k.left.now cs counts) c.args.from gaps c.gather.new.gaps.items c.args.marks.now c.gather.new.marks =
+    subst (λ old. IsGathered cs counts (is_true_at k.left.now cs counts) c.args.from gaps c.gather.new.gaps.items old c.gather.new.marks) (c.keep_within.ensures.same c.if-keep_within.false) c.gather.ensures.gathered in
+    gathered_and cs counts c.args.from c.args.e.now k.left.now k.right.now gaps c.gather.new.gaps.items last.new.gaps.items
+    c.args.marks.now c.gather.new.marks last.new.marks is first last.ensures.gathered
 
 pub sift-returns-then-put_beside-clause-gathered : goal.sift-returns-then-put_beside-clause-gathered
 sift-returns-then-put_beside-clause-gathered t c =

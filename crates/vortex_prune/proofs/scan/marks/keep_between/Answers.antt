@@ -11,7 +11,7 @@ returns-in-Some-Some c =
     let b = k.below.column.now in
     let last = passes_at k.below.test b.values in
     c.keep_passing-in-Some-Some.ensures
-    ∙ ap (marked last c.args.from) c.keep_passing.ensures
+    ∙ ap (marked last c.args.from) (c.keep_passing.ensures ∙ ap (marked (passes_at k.above.test a.values) c.args.from) (c.keep_within.ensures.same c.if-keep_within.false))
     ∙ marked-between c.args.table.chunk.now.columns c.args.table.counts c.args.e.now c.args.x.now c.args.lower.now c.args.upper.now c.args.options a b k.above.test k.below.test c.args.from c.args.marks.now
     c.requires.between
     (subst (λ o. IsComparison c.args.table.chunk.now.columns o c.args.lower.now c.args.x.now a k.above.test) c.to_operator-low.ensures k.ensures)
