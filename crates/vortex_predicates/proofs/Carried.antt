@@ -206,12 +206,12 @@ module _ (scope : List Named) (box : Box) (row : List Constant) (ds : List Place
 
 -- ---- the low values of a zone are of their columns' types
 
-present_fits : (s : Stat) (t : DType) (p : Precision ScalarValue) (v : ScalarValue) → present_value p ≡ Some v → value_fits s t p ≡ true → is_value_of (stat_dtype s t) v ≡ true
+pub present_fits : (s : Stat) (t : DType) (p : Precision ScalarValue) (v : ScalarValue) → present_value p ≡ Some v → value_fits s t p ≡ true → is_value_of (stat_dtype s t) v ≡ true
 present_fits s t (Exact w) v is h = subst (λ x. is_value_of (stat_dtype s t) x ≡ true) (same_Some _ _ is) h
 present_fits s t (Inexact w) v is h = subst (λ x. is_value_of (stat_dtype s t) x ≡ true) (same_Some _ _ is) h
 present_fits s t Absent v is h = absurd (none-some v is)
 
-extreme_fits : (t : DType) (v : ScalarValue) → is_value_of (extreme_dtype t) v ≡ true → is_value v t ≡ true
+pub extreme_fits : (t : DType) (v : ScalarValue) → is_value_of (extreme_dtype t) v ≡ true → is_value v t ≡ true
 extreme_fits dtype.Null v h = cc
 extreme_fits (dtype.Bool n) v h = h
 extreme_fits (dtype.Primitive p n) v h = h

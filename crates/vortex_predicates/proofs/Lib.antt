@@ -9,6 +9,7 @@ mod NullChoices
 mod NullFound
 mod NullRows
 mod NullTests
+mod OpenSides
 mod RightProofs
 mod Rows
 pub mod BuiltIn

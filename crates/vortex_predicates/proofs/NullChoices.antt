@@ -10,7 +10,7 @@ use Rattle.vortex_base.specs.Data.Exact.{both_hold}
 use Rattle.vortex_base.specs.Data.Scalars.{Constant, is_optional_value}
 use Rattle.vortex_base.specs.Data.Scopes.{Named}
 use Rattle.vortex_base.specs.Data.Types.{as_nullable, dtype_eq_is_exact, eq_ignore_nullability, is_nullable}
-use Rattle.vortex_base.specs.Data.Values.{is_value, value_cmp}
+use Rattle.vortex_base.specs.Data.Values.{is_value}
 use Rattle.vortex_base.specs.declared.aggregate.AggregateFnRef.{AggregateFnRef}
 use Rattle.vortex_base.specs.declared.aggregate.AggregateFnRef.TheVariants as aggregate
 use Rattle.vortex_base.specs.declared.dtype.DType.{DType}
@@ -27,22 +27,19 @@ use Rattle.vortex_expr.specs.declared.scalar_fn.Operator.TheVariants.{Eq, NotEq,
 use Rattle.vortex_normal.proofs.Columns.{all_indexed, eqb_same, indexed_in}
 use Rattle.vortex_normal.specs.LeafColumns.{column_beside, range_column}
 use Rattle.vortex_normal.specs.Strict.{agreed, body, both_valued, rests_on, sides_valued, strict, valued}
-use Rattle.vortex_predicates.proofs.Carried.{bounded_at, name_there, scoped_type, set_there, type_at}
+use Rattle.vortex_predicates.proofs.Carried.{name_there, scoped_type, set_there, type_at}
 use Rattle.vortex_predicates.proofs.NullTests.{KnowsNulls, Says, and_says, and_true, every_told, moved_says, none_told, not_null_says, null_says, or_says}
-use Rattle.vortex_predicates.specs.NullBoxes.{IsNullKnownBy, IsPossibleCell, IsPossibleValue, NullBox, is_simple_or_null}
-use Rattle.vortex_prune.proofs.Scanning.Boxes.{falsifiers_are_complete}
-use Rattle.vortex_prune.proofs.Scanning.WholeScan.{typed_bool}
+use Rattle.vortex_predicates.proofs.OpenSides.{HasSides, far_falsifier, in_order, low_fits}
+use Rattle.vortex_predicates.specs.NullBoxes.{IsNullKnownBy, IsPossibleCell, IsPossibleValue, NullBox, goes_far, is_simple_or_null}
 use Rattle.vortex_prune.specs.Binding.PartAnswers.{column_value, told_values}
 use Rattle.vortex_zone_map.specs.StatValues.{stat_value}
 use Rattle.vortex_zone_map.specs.Zone.{Entries, IsZone, ZoneData}
-use Rattle.vortex_prune.specs.Scanning.Complete.{IsKnownBy}
 use Rattle.vortex_rewrite.proofs.Completeness.Choices.{RowsAgree, all_back, all_front, all_map_both, meaning_agreed}
-use Rattle.vortex_rewrite.proofs.Soundness.TruthLogic.{clash, proves_value, refuted, true_and, true_or}
+use Rattle.vortex_rewrite.proofs.Soundness.TruthLogic.{clash, refuted, true_and, true_or}
 use Rattle.vortex_rewrite.proofs.Soundness.ValueTests.{le_refl}
 use Rattle.vortex_rewrite.specs.Rewriting.Predicates.{has_type, is_predicate}
 use Rattle.vortex_rewrite.specs.Rewriting.Proof.{Assignment, value_under}
 use Rattle.vortex_rewrite.specs.Rewriting.ReadOnce.{IsSatisfiable, IsWithin, are_apart, are_sides_apart, columns_of, has_index, is_apart, is_operand}
-use Rattle.vortex_stats.specs.Bounds.Order.{AtMost}
 use Rattle.vortex_stats.specs.Sets.Entries.{entry_value}
 use Rattle.vortex_stats.specs.declared.stat.Stat.TheVariants.{NullCount}
 
@@ -191,10 +188,6 @@ number_differs k m h e = clash (eq-eqb k m e) h
 zero_differs : (n : ℕ) → 0 < n → (0 == n) ≡ false
 zero_differs n h = refuted (0 == n) (λ e. let z : 0 ≡ n = eqb_same 0 n e in absurd (omega arith))
 
-set_weaker : (P Q : Entries → Type 0) (o : Option Entries) → ((es : Entries) → P es → Q es) → MatchOption o ⊥ P → MatchOption o ⊥ Q
-set_weaker P Q (Some es) f h = f es h
-set_weaker P Q None f h = absurd h
-
 module _ (scope : List Named) (zone : ZoneData) (is_zone : IsZone scope zone) (rows : 0 < zone.rows) (box : NullBox) (own : List Place) where
   abbrev pub answers : Assignment
   answers = told_values scope zone
@@ -207,11 +200,11 @@ module _ (scope : List Named) (zone : ZoneData) (is_zone : IsZone scope zone) (r
     pub fits : is_optional_value o (as_nullable (type_at (slice_get scope i))) ≡ true
     pub possible : has_index i own ≡ true → IsPossibleCell box zone.rows (place_at i) o
 
-  -- a column of the scope, among the columns, whose null count is known, and its bounds unless every cell is null
+  -- a column of the scope, among the columns, whose null count is known, and whose sides are its bounds where these are known
   pub record Known (c : Place) : Type 0 where
     pub scoped : is_of_type c.dtype (slice_get scope c.index) ≡ true
     pub owned : has_index c.index own ≡ true
-    pub set : MatchOption (slice_get zone.stats c.index) ⊥ (IsNullKnownBy box zone.rows c.index)
+    pub set : MatchOption (slice_get zone.stats c.index) ⊥ (IsNullKnownBy box zone.rows c)
 
   pub place_same : (c : Place) → is_of_type c.dtype (slice_get scope c.index) ≡ true → place_at c.index ≡ c
   place_same c h = ap (λ (t : DType). record { index = c.index; dtype = t }) (scoped_type (slice_get scope c.index) c.dtype h)
@@ -220,12 +213,8 @@ module _ (scope : List Named) (zone : ZoneData) (is_zone : IsZone scope zone) (r
   abbrev IsValued : Place → Type 0
   IsValued c = (box.nulls c.index == zone.rows) ≡ false
 
-  bounds_known : (c : Place) → Known c → IsValued c → MatchOption (slice_get zone.stats c.index) ⊥ (IsKnownBy box.bounds c.index)
-  bounds_known c k h =
-      set_weaker (IsNullKnownBy box zone.rows c.index) (IsKnownBy box.bounds c.index) (slice_get zone.stats c.index) (λ es w. w.bounds (number_differs _ _ h)) k.set
-
-  in_order : (c : Place) → Known c → IsValued c → AtMost value_cmp (box.bounds.low c.index) (box.bounds.high c.index)
-  in_order c k h = (set_there (IsNullKnownBy box zone.rows c.index) (slice_get zone.stats c.index) k.set).2.order (number_differs _ _ h)
+  has_sides : (c : Place) → Known c → IsValued c → HasSides scope zone is_zone box c
+  has_sides c k h = record { scoped = k.scoped; valued = h; set = k.set }
 
   column_told : (f : AggregateFnRef) (c : Place) (d : Named) (es : Entries) → slice_get scope c.index ≡ Some d → slice_get zone.stats c.index ≡ Some es → eq_ignore_nullability d.1 c.dtype ≡ true
       → answers f (column c) ≡ stat_value f es zone.rows
@@ -234,7 +223,7 @@ module _ (scope : List Named) (zone : ZoneData) (is_zone : IsZone scope zone) (r
   nulls_known : (c : Place) → Known c → KnowsNulls answers zone.rows c (box.nulls c.index)
   nulls_known c k =
       let d = name_there (slice_get scope c.index) c.dtype k.scoped in
-      let es = set_there (IsNullKnownBy box zone.rows c.index) (slice_get zone.stats c.index) k.set in
+      let es = set_there (IsNullKnownBy box zone.rows c) (slice_get zone.stats c.index) k.set in
       let suits : eq_ignore_nullability d.0.1 c.dtype ≡ true = (dtype_eq_is_exact (as_nullable d.0.1) (as_nullable c.dtype)).1 (ap as_nullable d.2) in
       record {
         count = column_told aggregate.NullCount c d.0 es.0 d.1 es.1 suits ∙ es.2.nulls;
@@ -253,10 +242,9 @@ module _ (scope : List Named) (zone : ZoneData) (is_zone : IsZone scope zone) (r
 
   least_cell : (c : Place) → Known c → IsValued c → Cell c.index (Some (box.bounds.low c.index))
   least_cell c k h =
-      let order = in_order c k h in
-      let bounded = bounded_at scope zone box.bounds is_zone c k.scoped (bounds_known c k h) order in
+      let sides = has_sides c k h in
       value_cell c k.scoped (box.bounds.low c.index)
-      (record { valued = number_differs _ _ h; of_type = bounded.low; above_low = not-true _ (le_refl (box.bounds.low c.index)); below_high = order })
+      (record { valued = number_differs _ _ h; of_type = low_fits scope zone is_zone box c sides; above_low = not-true _ (le_refl (box.bounds.low c.index)); below_high = in_order scope zone is_zone box c sides })
 
   -- ---- a cell for each place
 
@@ -416,22 +404,20 @@ module _ (scope : List Named) (zone : ZoneData) (is_zone : IsZone scope zone) (r
       told : Says answers zone.rows q says
       finds : says ≡ false → ¬ IsSatisfiable q box.bounds zone.rows → ⊥
 
-    leaf : (q : Tree Place) → is_apart q ≡ true → is_predicate q ≡ true → fits_scope q scope ≡ true → AllByRecursion Known (columns_of q) → AllByRecursion IsValued (columns_of q) → Leaf q
-    leaf q apart predicate fits known_q valued_q =
-        let t = typed_bool q (type_of q) refl predicate in
-        let is_box = all_map_both Known IsValued (λ c. MatchOption (slice_get zone.stats c.index) ⊥ (IsKnownBy box.bounds c.index)) (columns_of q) bounds_known known_q valued_q in
-        let order = all_map_both Known IsValued (λ c. AtMost value_cmp (box.bounds.low c.index) (box.bounds.high c.index)) (columns_of q) in_order known_q valued_q in
-        let d = falsifiers_are_complete q t.0 scope zone box.bounds t.1 t.2 is_zone fits apart is_box order in
+    leaf : (q : Tree Place) → is_apart q ≡ true → is_predicate q ≡ true → fits_scope q scope ≡ true → AllByRecursion Known (columns_of q) → AllByRecursion IsValued (columns_of q) → goes_far zone box q ≡ true → Leaf q
+    leaf q apart predicate fits known_q valued_q far =
+        let sides = all_map_both Known IsValued (HasSides scope zone is_zone box) (columns_of q) has_sides known_q valued_q in
+        let d = far_falsifier scope zone is_zone box q apart predicate fits sides far in
         record {
           says = is_true (value_under answers zone.rows d.0);
           told = record { proof = d.0; proof_is = d.1; told = refl };
-          finds = λ h none. clash (proves_value d.0 answers zone.rows (d.2.1 none)) h;
+          finds = λ h none. clash (d.2 none) h;
         }
 
     -- a leaf that needs no test
-    plain_good : (q : Tree Place) → is_apart q ≡ true → is_predicate q ≡ true → fits_scope q scope ≡ true → AllByRecursion Known (columns_of q) → AllByRecursion IsValued (columns_of q) → Good q q
-    plain_good q apart predicate fits known_q valued_q =
-        let x = leaf q apart predicate fits known_q valued_q in
+    plain_good : (q : Tree Place) → is_apart q ≡ true → is_predicate q ≡ true → fits_scope q scope ≡ true → AllByRecursion Known (columns_of q) → AllByRecursion IsValued (columns_of q) → goes_far zone box q ≡ true → Good q q
+    plain_good q apart predicate fits known_q valued_q far =
+        let x = leaf q apart predicate fits known_q valued_q far in
         record {
           says = x.says;
           told = x.told;
@@ -446,10 +432,10 @@ module _ (scope : List Named) (zone : ZoneData) (is_zone : IsZone scope zone) (r
       told : Says answers zone.rows q says
       finds : says ≡ false → ¬ Chosen q (binary And q (is_not_null (column c))) → ⊥
 
-    rested_leaf : (q : Tree Place) → is_apart q ≡ true → is_predicate q ≡ true → fits_scope q scope ≡ true → AllByRecursion Known (columns_of q) → (c : Place) → columns_of q ≡ c ∷ [] → IsValued c → Rested q c
-    rested_leaf q apart predicate fits known_q c alone h =
+    rested_leaf : (q : Tree Place) → is_apart q ≡ true → is_predicate q ≡ true → fits_scope q scope ≡ true → AllByRecursion Known (columns_of q) → (c : Place) → columns_of q ≡ c ∷ [] → IsValued c → goes_far zone box q ≡ true → Rested q c
+    rested_leaf q apart predicate fits known_q c alone h far =
         let valued_q = subst (λ (cs : List Place). AllByRecursion IsValued cs) (sym alone) (h, tt) in
-        let x = leaf q apart predicate fits known_q valued_q in
+        let x = leaf q apart predicate fits known_q valued_q far in
         record {
           says = x.says;
           told = x.told;
@@ -462,19 +448,20 @@ module _ (scope : List Named) (zone : ZoneData) (is_zone : IsZone scope zone) (r
               both_satisfied other zone.rows q (is_not_null (column c)) true_there (value_satisfied other zone.rows c inside.0.chosen (same.0 ∙ inside.0.cell)))));
         }
 
-    rested : (q : Tree Place) → is_simple_or_null q ≡ true → are_sides_apart q ≡ true → (c : Place) → rests_on q ≡ Some (column c) → is_predicate q ≡ true → fits_scope q scope ≡ true → AllByRecursion Known (columns_of q) → IsValued c → Rested q c
-    rested (binary And l r) simple apart c is predicate fits known_q h =
+    rested : (q : Tree Place) → is_simple_or_null q ≡ true → are_sides_apart q ≡ true → (c : Place) → rests_on q ≡ Some (column c) → is_predicate q ≡ true → fits_scope q scope ≡ true → AllByRecursion Known (columns_of q) → IsValued c → goes_far zone box q ≡ true → Rested q c
+    rested (binary And l r) simple apart c is predicate fits known_q h far =
         let k = agreed_both (rests_on l) (rests_on r) (column c) is in
         let a = and_parts (are_apart (columns_of l) (columns_of r)) (are_sides_apart l && are_sides_apart r) apart in
         absurd (not_shared (columns_of l) (columns_of r) c.index a.0 (rests_index l c k.0) (rests_index r c k.1))
-    rested (binary Or l r) simple apart c is predicate fits known_q h =
+    rested (binary Or l r) simple apart c is predicate fits known_q h far =
         let k = agreed_both (rests_on l) (rests_on r) (column c) is in
         let e = and_parts (is_simple_or_null l) (is_simple_or_null r) simple in
         let a = and_parts (are_sides_apart l) (are_sides_apart r) apart in
         let t = sides_typed (type_of l) (type_of r) predicate in
         let f = and_parts (fits_scope l scope) (fits_scope r scope) fits in
-        let x = rested l e.0 a.0 c k.0 t.0 f.0 (all_front Known (columns_of l) (columns_of r) known_q) h in
-        let y = rested r e.1 a.1 c k.1 t.1 f.1 (all_back Known (columns_of l) (columns_of r) known_q) h in
+        let g = and_parts (goes_far zone box l) (goes_far zone box r) far in
+        let x = rested l e.0 a.0 c k.0 t.0 f.0 (all_front Known (columns_of l) (columns_of r) known_q) h g.0 in
+        let y = rested r e.1 a.1 c k.1 t.1 f.1 (all_back Known (columns_of l) (columns_of r) known_q) h g.1 in
         let v = is_not_null (column c) in
         let s = binary And (binary Or l r) v in
         record {
@@ -488,15 +475,15 @@ module _ (scope : List Named) (zone : ZoneData) (is_zone : IsZone scope zone) (r
               (λ row j. let m = sides_satisfied row zone.rows r v j in both_satisfied row zone.rows (binary Or l r) v (right_satisfied row zone.rows l r m.0) m.1) z)))
               (and_cases x.says y.says b);
         }
-    rested (binary Eq l r) simple apart c is predicate fits known_q h = rested_leaf (binary Eq l r) (both_hold _ _ simple apart) predicate fits known_q c (beside_alone l r c is) h
-    rested (binary NotEq l r) simple apart c is predicate fits known_q h = rested_leaf (binary NotEq l r) (both_hold _ _ simple apart) predicate fits known_q c (beside_alone l r c is) h
-    rested (binary Gt l r) simple apart c is predicate fits known_q h = rested_leaf (binary Gt l r) (both_hold _ _ simple apart) predicate fits known_q c (beside_alone l r c is) h
-    rested (binary Gte l r) simple apart c is predicate fits known_q h = rested_leaf (binary Gte l r) (both_hold _ _ simple apart) predicate fits known_q c (beside_alone l r c is) h
-    rested (binary Lt l r) simple apart c is predicate fits known_q h = rested_leaf (binary Lt l r) (both_hold _ _ simple apart) predicate fits known_q c (beside_alone l r c is) h
-    rested (binary Lte l r) simple apart c is predicate fits known_q h = rested_leaf (binary Lte l r) (both_hold _ _ simple apart) predicate fits known_q c (beside_alone l r c is) h
-    rested (between o x l u) simple apart c is predicate fits known_q h = rested_leaf (between o x l u) (both_hold _ _ simple apart) predicate fits known_q c (range_alone x l u c is) h
-    rested (like o x p) simple apart c is predicate fits known_q h = cc
-    rested q simple apart c is predicate fits known_q h = absurd (none-some (column c) is)
+    rested (binary Eq l r) simple apart c is predicate fits known_q h far = rested_leaf (binary Eq l r) (both_hold _ _ simple apart) predicate fits known_q c (beside_alone l r c is) h far
+    rested (binary NotEq l r) simple apart c is predicate fits known_q h far = rested_leaf (binary NotEq l r) (both_hold _ _ simple apart) predicate fits known_q c (beside_alone l r c is) h far
+    rested (binary Gt l r) simple apart c is predicate fits known_q h far = rested_leaf (binary Gt l r) (both_hold _ _ simple apart) predicate fits known_q c (beside_alone l r c is) h far
+    rested (binary Gte l r) simple apart c is predicate fits known_q h far = rested_leaf (binary Gte l r) (both_hold _ _ simple apart) predicate fits known_q c (beside_alone l r c is) h far
+    rested (binary Lt l r) simple apart c is predicate fits known_q h far = rested_leaf (binary Lt l r) (both_hold _ _ simple apart) predicate fits known_q c (beside_alone l r c is) h far
+    rested (binary Lte l r) simple apart c is predicate fits known_q h far = rested_leaf (binary Lte l r) (both_hold _ _ simple apart) predicate fits known_q c (beside_alone l r c is) h far
+    rested (between o x l u) simple apart c is predicate fits known_q h far = rested_leaf (between o x l u) (both_hold _ _ simple apart) predicate fits known_q c (range_alone x l u c is) h far
+    rested (like o x p) simple apart c is predicate fits known_q h far = cc
+    rested q simple apart c is predicate fits known_q h far = absurd (none-some (column c) is)
 
     valued_good : (q : Tree Place) (c : Place) → (IsValued c → Rested q c) → Known c → (b : Bool) → (box.nulls c.index == zone.rows) ≡ b → Good q (binary And q (is_not_null (column c)))
     valued_good q c rest k true e = record {
@@ -513,9 +500,9 @@ module _ (scope : List Named) (zone : ZoneData) (is_zone : IsZone scope zone) (r
         }
 
     -- a predicate that rests on a column, with a test of it
-    rested_good : (q b d : Tree Place) → is_simple_or_null q ≡ true → are_sides_apart q ≡ true → rests_on q ≡ Some d → b ≡ q
+    rested_good : (q b d : Tree Place) → is_simple_or_null q ≡ true → are_sides_apart q ≡ true → rests_on q ≡ Some d → b ≡ q → goes_far zone box q ≡ true
         → is_predicate (binary And b (is_not_null d)) ≡ true → fits_scope (binary And b (is_not_null d)) scope ≡ true → AllByRecursion Known (columns_of (binary And b (is_not_null d))) → Good q (binary And b (is_not_null d))
-    rested_good q b d simple apart is same predicate fits known_q =
+    rested_good q b d simple apart is same far predicate fits known_q =
         let w = rests_has q d is in
         let c = w.0 in
         let t = sides_typed (type_of b) (type_of (is_not_null d)) predicate in
@@ -526,7 +513,7 @@ module _ (scope : List Named) (zone : ZoneData) (is_zone : IsZone scope zone) (r
         let at_q : AllByRecursion Known (columns_of q) = subst (λ (e : Tree Place). AllByRecursion Known (columns_of e)) same front in
         let good : Good q (binary And q (is_not_null (column c))) =
         valued_good q c
-        (rested q simple apart c (is ∙ ap Some w.1) (subst (λ (e : Tree Place). is_predicate e ≡ true) same t.0) (subst (λ (e : Tree Place). fits_scope e scope ≡ true) same f.0) at_q)
+        (λ h. rested q simple apart c (is ∙ ap Some w.1) (subst (λ (e : Tree Place). is_predicate e ≡ true) same t.0) (subst (λ (e : Tree Place). fits_scope e scope ≡ true) same f.0) at_q h far)
         known_c.0 (box.nulls c.index == zone.rows) refl in
         subst (λ (e : Tree Place). Good q (binary And e (is_not_null d))) (sym same) (subst (λ (e : Tree Place). Good q (binary And q (is_not_null e))) (sym w.1) good)
 
@@ -534,7 +521,7 @@ module _ (scope : List Named) (zone : ZoneData) (is_zone : IsZone scope zone) (r
 
     -- a comparison of two columns, each with a test of it
     module _ (q : Tree Place) (c d : Place) (alone : columns_of q ≡ c ∷ (d ∷ [])) (apart : is_apart q ≡ true) (predicate : is_predicate q ≡ true) (fits : fits_scope q scope ≡ true)
-        (known_q : AllByRecursion Known (columns_of q)) (known_c : Known c) (known_d : Known d) where
+        (known_q : AllByRecursion Known (columns_of q)) (known_c : Known c) (known_d : Known d) (far : goes_far zone box q ≡ true) where
       abbrev with_first : Tree Place
       with_first = binary And q (is_not_null (column c))
 
@@ -562,7 +549,7 @@ module _ (scope : List Named) (zone : ZoneData) (is_zone : IsZone scope zone) (r
       }
       two_good false false e g =
           let valued_q = subst (λ (cs : List Place). AllByRecursion IsValued cs) (sym alone) (e, (g, tt)) in
-          let x = leaf q apart predicate fits known_q valued_q in
+          let x = leaf q apart predicate fits known_q valued_q far in
           record {
             says = (x.says || (box.nulls c.index == zone.rows)) || (box.nulls d.index == zone.rows);
             told =
@@ -580,12 +567,12 @@ module _ (scope : List Named) (zone : ZoneData) (is_zone : IsZone scope zone) (r
           }
 
     -- a comparison of columns and literals
-    comparison : (q l r : Tree Place) → columns_of q ≡ columns_of l ++ columns_of r → rests_on q ≡ column_beside l r → is_simple_or_null q ≡ true → are_sides_apart q ≡ true → is_apart q ≡ true → (is_operand l && is_operand r) ≡ true
+    comparison : (q l r : Tree Place) → columns_of q ≡ columns_of l ++ columns_of r → rests_on q ≡ column_beside l r → is_simple_or_null q ≡ true → are_sides_apart q ≡ true → is_apart q ≡ true → (is_operand l && is_operand r) ≡ true → goes_far zone box q ≡ true
         → is_predicate (valued (column_beside l r) (both_valued l r q)) ≡ true → fits_scope (valued (column_beside l r) (both_valued l r q)) scope ≡ true → AllByRecursion Known (columns_of (valued (column_beside l r) (both_valued l r q)))
         → Good q (valued (column_beside l r) (both_valued l r q))
-    comparison q (column c) (literal d) alone rests simple sides apart operands p f k = rested_good q q (column c) simple sides rests refl p f k
-    comparison q (literal d) (column c) alone rests simple sides apart operands p f k = rested_good q q (column c) simple sides rests refl p f k
-    comparison q (column c) (column d) alone rests simple sides apart operands p f k =
+    comparison q (column c) (literal d) alone rests simple sides apart operands far p f k = rested_good q q (column c) simple sides rests refl far p f k
+    comparison q (literal d) (column c) alone rests simple sides apart operands far p f k = rested_good q q (column c) simple sides rests refl far p f k
+    comparison q (column c) (column d) alone rests simple sides apart operands far p f k =
         let x = binary And q (is_not_null (column c)) in
         let t = sides_typed (type_of x) (type_of (is_not_null (column d))) p in
         let u = sides_typed (type_of q) (type_of (is_not_null (column c))) t.0 in
@@ -593,12 +580,12 @@ module _ (scope : List Named) (zone : ZoneData) (is_zone : IsZone scope zone) (r
         let h = and_parts (fits_scope q scope) (fits_scope (is_not_null (column c)) scope) g.0 in
         let front = all_front Known (columns_of q ++ (c ∷ [])) (d ∷ []) k in
         let back = all_back Known (columns_of q ++ (c ∷ [])) (d ∷ []) k in
-        two_good q c d alone apart u.0 h.0 (all_front Known (columns_of q) (c ∷ []) front) (all_back Known (columns_of q) (c ∷ []) front).0 back.0
+        two_good q c d alone apart u.0 h.0 (all_front Known (columns_of q) (c ∷ []) front) (all_back Known (columns_of q) (c ∷ []) front).0 back.0 far
         (box.nulls c.index == zone.rows) (box.nulls d.index == zone.rows) refl refl
-    comparison q (literal c) (literal d) alone rests simple sides apart operands p f k = plain_good q apart p f k (subst (λ (cs : List Place). AllByRecursion IsValued cs) (sym alone) tt)
-    comparison q (column c) r alone rests simple sides apart operands p f k = cc
-    comparison q (literal c) r alone rests simple sides apart operands p f k = let no = (and_parts (is_some c.value) (is_operand r) operands).1 in cc
-    comparison q l r alone rests simple sides apart operands p f k = cc
+    comparison q (literal c) (literal d) alone rests simple sides apart operands far p f k = plain_good q apart p f k (subst (λ (cs : List Place). AllByRecursion IsValued cs) (sym alone) tt) far
+    comparison q (column c) r alone rests simple sides apart operands far p f k = cc
+    comparison q (literal c) r alone rests simple sides apart operands far p f k = let no = (and_parts (is_some c.value) (is_operand r) operands).1 in cc
+    comparison q l r alone rests simple sides apart operands far p f k = cc
 
     -- a cell of a column, and the usual ones elsewhere
     abbrev put : (c : Place) (o : Option ScalarValue) → ℕ → Option ScalarValue
@@ -661,37 +648,39 @@ module _ (scope : List Named) (zone : ZoneData) (is_zone : IsZone scope zone) (r
           let w = rests_has l d k.0 in
           absurd (not_shared (columns_of l) (columns_of r) w.0.index apart w.2 (rests_index r w.0 (k.1 ∙ ap Some w.1)))
 
-      or_by : (s : Option (Tree Place)) → agreed (rests_on l) (rests_on r) ≡ s → is_simple_or_null (binary Or l r) ≡ true → are_sides_apart (binary Or l r) ≡ true → Fits (strict_by Or s) → Good (binary Or l r) (strict_by Or s)
-      or_by None is simple apart f =
+      or_by : (s : Option (Tree Place)) → agreed (rests_on l) (rests_on r) ≡ s → is_simple_or_null (binary Or l r) ≡ true → are_sides_apart (binary Or l r) ≡ true → goes_far zone box (binary Or l r) ≡ true → Fits (strict_by Or s) → Good (binary Or l r) (strict_by Or s)
+      or_by None is simple apart far f =
           let both = sides_fit Or (strict l) (strict r) f.predicate f.fits f.known_columns in
           or_good l r (strict l) (strict r) (left both.0) (right both.1)
-      or_by (Some d) is simple apart f =
+      or_by (Some d) is simple apart far f =
           let k = agreed_both (rests_on l) (rests_on r) d is in
-          rested_good (binary Or l r) (binary Or (body l) (body r)) d simple apart is (ap₂ (binary Or) (rests_plain l d k.0) (rests_plain r d k.1)) f.predicate f.fits f.known_columns
+          rested_good (binary Or l r) (binary Or (body l) (body r)) d simple apart is (ap₂ (binary Or) (rests_plain l d k.0) (rests_plain r d k.1)) far f.predicate f.fits f.known_columns
 
-    pub good : (q : Tree Place) → is_simple_or_null q ≡ true → are_sides_apart q ≡ true → Fits (strict q) → Good q (strict q)
-    good (literal c) simple apart f = plain_good (literal c) (both_hold _ _ simple apart) f.predicate f.fits f.known_columns tt
-    good (binary And l r) simple apart f =
+    pub good : (q : Tree Place) → is_simple_or_null q ≡ true → are_sides_apart q ≡ true → goes_far zone box q ≡ true → Fits (strict q) → Good q (strict q)
+    good (literal c) simple apart far f = plain_good (literal c) (both_hold _ _ simple apart) f.predicate f.fits f.known_columns tt far
+    good (binary And l r) simple apart far f =
         let e = and_parts (is_simple_or_null l) (is_simple_or_null r) simple in
         let a = and_parts (are_apart (columns_of l) (columns_of r)) (are_sides_apart l && are_sides_apart r) apart in
         let b = and_parts (are_sides_apart l) (are_sides_apart r) a.1 in
-        and_by l r (good l e.0 b.0) (good r e.1 b.1) (agreed (rests_on l) (rests_on r)) refl a.0 f
-    good (binary Or l r) simple apart f =
+        let g = and_parts (goes_far zone box l) (goes_far zone box r) far in
+        and_by l r (good l e.0 b.0 g.0) (good r e.1 b.1 g.1) (agreed (rests_on l) (rests_on r)) refl a.0 f
+    good (binary Or l r) simple apart far f =
         let e = and_parts (is_simple_or_null l) (is_simple_or_null r) simple in
         let b = and_parts (are_sides_apart l) (are_sides_apart r) apart in
-        or_by l r (good l e.0 b.0) (good r e.1 b.1) (agreed (rests_on l) (rests_on r)) refl simple apart f
-    good (binary Eq l r) simple apart f = comparison (binary Eq l r) l r refl refl simple apart (both_hold _ _ simple apart) simple f.predicate f.fits f.known_columns
-    good (binary NotEq l r) simple apart f = comparison (binary NotEq l r) l r refl refl simple apart (both_hold _ _ simple apart) simple f.predicate f.fits f.known_columns
-    good (binary Gt l r) simple apart f = comparison (binary Gt l r) l r refl refl simple apart (both_hold _ _ simple apart) simple f.predicate f.fits f.known_columns
-    good (binary Gte l r) simple apart f = comparison (binary Gte l r) l r refl refl simple apart (both_hold _ _ simple apart) simple f.predicate f.fits f.known_columns
-    good (binary Lt l r) simple apart f = comparison (binary Lt l r) l r refl refl simple apart (both_hold _ _ simple apart) simple f.predicate f.fits f.known_columns
-    good (binary Lte l r) simple apart f = comparison (binary Lte l r) l r refl refl simple apart (both_hold _ _ simple apart) simple f.predicate f.fits f.known_columns
-    good (between o (column c) (literal d) (literal e)) simple apart f =
+        let g = and_parts (goes_far zone box l) (goes_far zone box r) far in
+        or_by l r (good l e.0 b.0 g.0) (good r e.1 b.1 g.1) (agreed (rests_on l) (rests_on r)) refl simple apart far f
+    good (binary Eq l r) simple apart far f = comparison (binary Eq l r) l r refl refl simple apart (both_hold _ _ simple apart) simple far f.predicate f.fits f.known_columns
+    good (binary NotEq l r) simple apart far f = comparison (binary NotEq l r) l r refl refl simple apart (both_hold _ _ simple apart) simple far f.predicate f.fits f.known_columns
+    good (binary Gt l r) simple apart far f = comparison (binary Gt l r) l r refl refl simple apart (both_hold _ _ simple apart) simple far f.predicate f.fits f.known_columns
+    good (binary Gte l r) simple apart far f = comparison (binary Gte l r) l r refl refl simple apart (both_hold _ _ simple apart) simple far f.predicate f.fits f.known_columns
+    good (binary Lt l r) simple apart far f = comparison (binary Lt l r) l r refl refl simple apart (both_hold _ _ simple apart) simple far f.predicate f.fits f.known_columns
+    good (binary Lte l r) simple apart far f = comparison (binary Lte l r) l r refl refl simple apart (both_hold _ _ simple apart) simple far f.predicate f.fits f.known_columns
+    good (between o (column c) (literal d) (literal e)) simple apart far f =
         let q = between o (column c) (literal d) (literal e) in
-        rested_good q q (column c) simple apart refl refl f.predicate f.fits f.known_columns
-    good (between o x l u) simple apart f = cc
-    good (is_null (column c)) simple apart f = null_good c f.known_columns.0
-    good (is_null x) simple apart f = cc
-    good (is_not_null (column c)) simple apart f = not_null_good c f.known_columns.0
-    good (is_not_null x) simple apart f = cc
-    good q simple apart f = cc
+        rested_good q q (column c) simple apart refl refl far f.predicate f.fits f.known_columns
+    good (between o x l u) simple apart far f = cc
+    good (is_null (column c)) simple apart far f = null_good c f.known_columns.0
+    good (is_null x) simple apart far f = cc
+    good (is_not_null (column c)) simple apart far f = not_null_good c f.known_columns.0
+    good (is_not_null x) simple apart far f = cc
+    good q simple apart far f = cc

@@ -102,7 +102,7 @@ null_alone (Some (value.Primitive n)) h = cc
 null_alone (Some (value.Utf8 bs)) h = cc
 null_alone (Some (value.Binary bs)) h = cc
 
-module _ (p : Tree Place) (scope : List Named) (zone : ZoneData) (is_zone : IsZone scope zone) (fits : IsTrue (fits_scope p scope)) (plain : IsTrue (is_plain p)) (box : NullBox) (of_zone : IsNullBoxOf zone p box) where
+module _ (p : Tree Place) (scope : List Named) (zone : ZoneData) (is_zone : IsZone scope zone) (fits : IsTrue (fits_scope p scope)) (plain : IsTrue (is_plain p)) (box : NullBox) (test : Tree Place) (of_zone : IsNullBoxOf zone p test box) where
   abbrev own : List Place
   own = columns_of p
 
@@ -111,7 +111,7 @@ module _ (p : Tree Place) (scope : List Named) (zone : ZoneData) (is_zone : IsZo
 
   known_own : AllByRecursion KnownHere own
   known_own =
-      all_map_both (λ c. (is_of_type c.dtype (slice_get scope c.index) ≡ true) × (has_index c.index own ≡ true)) (λ c. MatchOption (slice_get zone.stats c.index) ⊥ (IsNullKnownBy box zone.rows c.index)) KnownHere own
+      all_map_both (λ c. (is_of_type c.dtype (slice_get scope c.index) ≡ true) × (has_index c.index own ≡ true)) (λ c. MatchOption (slice_get zone.stats c.index) ⊥ (IsNullKnownBy box zone.rows c)) KnownHere own
       (λ c h k. record { scoped = h.0; owned = h.1; set = k })
       (all_map_both (λ c. is_of_type c.dtype (slice_get scope c.index) ≡ true) (λ c. has_index c.index own ≡ true) (λ c. (is_of_type c.dtype (slice_get scope c.index) ≡ true) × (has_index c.index own ≡ true)) own
       (λ c h k. (h, k)) (each_column (λ c. is_of_type c.dtype (slice_get scope c.index)) p fits) (all_indexed own))
@@ -171,24 +171,24 @@ module _ (p : Tree Place) (scope : List Named) (zone : ZoneData) (is_zone : IsZo
   abbrev Passing : (w m : Bool) → Type 0
   Passing w m = (row : List Constant) × IsPossibleRow box zone.rows p row × (passes w m (truth (meaning p row zone.rows)) ≡ true)
 
-  module _ (w m : Bool) (q : Tree Place) (form : IsTestForm w m p (strict q)) (apart : is_null_apart q ≡ true) where
-    simple : is_simple_or_null q ≡ true
-    simple = (and_parts (is_simple_or_null q) (are_sides_apart q) apart).0
+  module _ (w m : Bool) (form : IsTestForm w m p (strict test)) (apart : is_null_apart test ≡ true) where
+    simple : is_simple_or_null test ≡ true
+    simple = (and_parts (is_simple_or_null test) (are_sides_apart test) apart).0
 
-    good_form : Good scope zone is_zone of_zone.rows box own known_own q (strict q)
+    good_form : Good scope zone is_zone of_zone.rows box own known_own test (strict test)
     good_form =
-        good scope zone is_zone of_zone.rows box own known_own q simple (and_parts (is_simple_or_null q) (are_sides_apart q) apart).1
-        (record { predicate = form.predicate; fits = form.columns (λ c. is_of_type c.dtype (slice_get scope c.index)) fits; known_columns = carried_columns p (strict q) plain form.columns KnownHere known_own })
+        good scope zone is_zone of_zone.rows box own known_own test simple (and_parts (is_simple_or_null test) (are_sides_apart test) apart).1 of_zone.far
+        (record { predicate = form.predicate; fits = form.columns (λ c. is_of_type c.dtype (slice_get scope c.index)) fits; known_columns = carried_columns p (strict test) plain form.columns KnownHere known_own })
 
-    chosen_passes : Chosen scope zone is_zone of_zone.rows box own known_own q (strict q) → Passing w m
+    chosen_passes : Chosen scope zone is_zone of_zone.rows box own known_own test (strict test) → Passing w m
     chosen_passes x =
         let row = made_row x.choice x.cells in (
           row,
           row_possible x.choice x.cells,
           ap (λ v. passes w m (truth v)) (any_count row zone.rows 0 p (no_count p plain))
               ∙ sym (form.test row 0 (made_is_row x.choice x.cells) (row_fits x.choice x.cells) (lit< tt))
-              ∙ ap is_true (any_count row 0 zone.rows (strict q) (no_count (strict q) (form.plain plain)))
-              ∙ x.holds row (takes_made x.choice x.cells (columns_of q)),
+              ∙ ap is_true (any_count row 0 zone.rows (strict test) (no_count (strict test) (form.plain plain)))
+              ∙ x.holds row (takes_made x.choice x.cells (columns_of test)),
         )
 
     -- where no truth of a possible row passes, the falsifier of the strict test is true
@@ -196,29 +196,31 @@ module _ (p : Tree Place) (scope : List Named) (zone : ZoneData) (is_zone : IsZo
     falsified_by true e none = good_form.told.told ∙ e
     falsified_by false e none = absurd (good_form.finds e (λ x. none (chosen_passes x)))
 
-    form_falsified : ¬ Passing w m → proves_of (falsifier [] (strict q)) zone.rows (told_values scope zone) ≡ true
+    form_falsified : ¬ Passing w m → proves_of (falsifier [] (strict test)) zone.rows (told_values scope zone) ≡ true
     form_falsified none =
         let g = good_form.told in
         ap (λ (o : Option (Tree Place)). proves_of o zone.rows (told_values scope zone)) g.proof_is
-        ∙ closed_told (has_bare_column g.proof) (value_under (told_values scope zone) zone.rows g.proof) (sym (ap is_open g.proof_is) ∙ built_in_is_shut (strict q)) (falsified_by good_form.says refl none)
+        ∙ closed_told (has_bare_column g.proof) (value_under (told_values scope zone) zone.rows g.proof) (sym (ap is_open g.proof_is) ∙ built_in_is_shut (strict test)) (falsified_by good_form.says refl none)
 
-    form_proved : ¬ Passing w m → proves_of (form_proof [] (strict q)) zone.rows (told_values scope zone) ≡ true
+    form_proved : ¬ Passing w m → proves_of (form_proof [] (strict test)) zone.rows (told_values scope zone) ≡ true
     form_proved none =
-        let unlike : has_column_like (strict q) ≡ false = valued_unlike (rests_on q) (body q) (body_unlike q simple) in
-        ap (λ (b : Bool). proves_of (if b then joint_unless_built_in [] (falsifier [] (strict q)) (leaf_proof [] (strict q)) else falsifier [] (strict q)) zone.rows (told_values scope zone)) unlike
+        let unlike : has_column_like (strict test) ≡ false = valued_unlike (rests_on test) (body test) (body_unlike test simple) in
+        ap (λ (b : Bool). proves_of (if b then joint_unless_built_in [] (falsifier [] (strict test)) (leaf_proof [] (strict test)) else falsifier [] (strict test)) zone.rows (told_values scope zone)) unlike
         ∙ form_falsified none
-
-  -- and the proof by it
-  test_proved : (w m : Bool) (levels : Option ℕ) → is_test_within levels w m p ≡ true → IsTestForm w m p (strict_test w m p) → is_null_apart (narrow_test w m p) ≡ true → ¬ Passing w m
-      → proves_of (test_proof [] levels w m p) zone.rows (told_values scope zone) ≡ true
-  test_proved w m levels within form apart none =
-      ap (λ (b : Bool). proves_of (if b then form_proof [] (strict_test w m p) else None) zone.rows (told_values scope zone)) within ∙ form_proved w m (narrow_test w m p) form apart none
 
   none_passes : ¬ IsPossible p box zone.rows → Passing true false → ⊥
   none_passes none x = none (x.0, x.1, sym (passing_true (meaning p x.0 zone.rows)) ∙ x.2)
 
   none_fails : IsCertain p box zone.rows → Passing false true → ⊥
   none_fails all x = clash (all x.0 x.1) (untrue_passes (meaning p x.0 zone.rows) x.2)
+
+module _ (p : Tree Place) (scope : List Named) (zone : ZoneData) (is_zone : IsZone scope zone) (fits : IsTrue (fits_scope p scope)) (plain : IsTrue (is_plain p)) (box : NullBox) (levels : Option ℕ) where
+  -- and the proof by it
+  test_proved : (w m : Bool) (of_zone : IsNullBoxOf zone p (narrow_test w m p) box) → is_test_within levels w m p ≡ true → IsTestForm w m p (strict_test w m p) → is_null_apart (narrow_test w m p) ≡ true
+      → ¬ Passing p scope zone is_zone fits plain box (narrow_test w m p) of_zone w m → proves_of (test_proof [] levels w m p) zone.rows (told_values scope zone) ≡ true
+  test_proved w m of_zone within form apart none =
+      ap (λ (b : Bool). proves_of (if b then form_proof [] (strict_test w m p) else None) zone.rows (told_values scope zone)) within
+      ∙ form_proved p scope zone is_zone fits plain box (narrow_test w m p) of_zone w m form apart none
 
 -- ---- the zones of a map
 
@@ -248,7 +250,7 @@ module _ (f s : Option (Tree Place)) (scope : List Named) (zones : List ZoneData
       let k = and_parts (is_test_within levels true false p) (is_null_apart (narrow_test true false p)) decided in
       true_skipped f s scope zones vs is i zone there
       (skip_told made zone
-      (test_proved p scope zone (are i zone there) fits plain box of_zone true false levels k.0 (forms.true_form k.0) k.1 (none_passes p scope zone (are i zone there) fits plain box of_zone none)))
+      (test_proved p scope zone (are i zone there) fits plain box levels true false of_zone k.0 (forms.true_form k.0) k.1 (none_passes p scope zone (are i zone there) fits plain box (narrow_test true false p) of_zone none)))
 
   pub finds_certain : s ≡ whole_proof [] levels p → IsTrue (is_null_decided levels false true p) → FindsCertain p zones (skipped_places vs) (whole_places vs)
   finds_certain made decided i zone box there of_zone all = by_skipped (told f zone) refl
@@ -257,7 +259,7 @@ module _ (f s : Option (Tree Place)) (scope : List Named) (zones : List ZoneData
       whole_true =
           let k = and_parts (is_test_within levels false true p) (is_null_apart (narrow_test false true p)) decided in
           whole_told made zone
-          (test_proved p scope zone (are i zone there) fits plain box of_zone false true levels k.0 (forms.untrue_form k.0) k.1 (none_fails p scope zone (are i zone there) fits plain box of_zone all))
+          (test_proved p scope zone (are i zone there) fits plain box levels false true of_zone k.0 (forms.untrue_form k.0) k.1 (none_fails p scope zone (are i zone there) fits plain box (narrow_test false true p) of_zone all))
 
       by_skipped : (b : Bool) → told f zone ≡ b → Contains (skipped_places vs) i ⊎ Contains (whole_places vs) i
       by_skipped true e = inl (true_skipped f s scope zones vs is i zone there e)

@@ -266,6 +266,12 @@ fn is_null_decided(
 /// which the sides of no AND share a column. `levels` are those of
 /// `PruningPredicate::try_new_within`; `None` stands for `try_new`.
 ///
+/// A zone may lack any bound. Each value of the column's type may then stand for it with which the
+/// test's comparisons hold that read it: `a < 5` reads the least value of `a`, for which 4 may
+/// stand and any lesser value. Nothing is promised where no value of the type is such: a zone that
+/// lacks the least value of `a` is kept under `a < b` even if each value of `b` is the least one of
+/// its type.
+///
 /// `NotPredicate` if the expression isn't of type Bool, which is found before anything is taken.
 pub fn is_complete_with_nulls(
     alloc: Global,
@@ -285,7 +291,7 @@ pub fn is_complete_with_nulls(
 /// counts leave only rows that satisfy the predicate.
 ///
 /// It does if the narrowed test that the predicate isn't true is such a tree as
-/// `is_complete_with_nulls` asks for.
+/// `is_complete_with_nulls` asks for. A zone may lack any bound, as there.
 ///
 /// `NotPredicate` if the expression isn't of type Bool, which is found before anything is taken.
 pub fn is_whole_complete_for(

@@ -5,7 +5,8 @@ ghost use Rattle.vortex_predicates.specs.Full.{SameSelectsTheSame};
 ghost use Rattle.vortex_predicates.specs.Worked.{JointExamples, ProofExamples};
 ghost use Rattle.vortex_predicates.specs.WorkedComplete.{CompleteExamples};
 ghost use Rattle.vortex_predicates.specs.WorkedLikes.{LikeExamples, LikeProofExamples};
-ghost use Rattle.vortex_predicates.specs.WorkedNulls.{NullExamples, NullZoneExamples};
+ghost use Rattle.vortex_predicates.specs.WorkedNulls.{FarExamples, NullExamples, NullZoneExamples};
+ghost use Rattle.vortex_predicates.specs.WorkedNulls.{OneSidedExamples};
 
 /// Two predicates that are satisfied by the same rows select the same rows of parts.
 pub fn same_selects_the_same()
@@ -33,10 +34,13 @@ pub fn complete_examples_hold()
     ensures { CompleteExamples }
 {}
 
-/// Worked predicates for which pruning is complete where null counts are known, and worked zones.
+/// Worked predicates for which pruning is complete where null counts are known, worked zones, some
+/// of which lack a bound, and boxes that go far enough for these, and some that don't.
 pub fn null_examples_hold()
     ensures predicates { NullExamples }
     ensures zones { NullZoneExamples }
+    ensures one_sided { OneSidedExamples }
+    ensures boxes { FarExamples }
 {}
 
 /// Where a column's bounds are one text of which a LIKE isn't true, the proof that no row satisfies

@@ -407,14 +407,15 @@ impl PruningPredicate {
         // By built-in rules, where the narrowed test that the predicate is true is a tree of AND
         // and OR over comparisons, ranges, truths and null tests in which the sides of no AND share
         // a column, a zone is skipped if its bounds and null counts leave no row that satisfies the
-        // predicate. `try_new` tells what the tests mean.
+        // predicate. For a bound that it lacks any value of the column's type may stand with which
+        // the test's comparisons hold that read the bound. `try_new` tells what the tests mean.
         ensures complete_with_nulls { IfOk result (λ vs. (zones : List ZoneData)
             → IsMapOf zones map.now → (levels : Option ℕ) → IsMadeBy [] levels self.now
             → HasTestForms levels self.now.predicate
             → IsTrue (is_null_decided levels true false self.now.predicate)
             → SkipsImpossible self.now.predicate zones (skipped_places vs.items)) }
         // And where the test that it isn't true is such a tree, a zone is skipped or whole if they
-        // leave only rows that satisfy the predicate.
+        // leave only rows that satisfy the predicate, whichever bounds it lacks.
         ensures complete_whole { IfOk result (λ vs. (zones : List ZoneData) → IsMapOf zones map.now
             → (levels : Option ℕ) → IsMadeBy [] levels self.now
             → HasTestForms levels self.now.predicate
