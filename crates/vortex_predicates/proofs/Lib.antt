@@ -1,3 +1,4 @@
+mod Beyond
 mod CompleteRows
 mod Decided
 mod EqualBounds

@@ -1,3 +1,4 @@
+pub mod Beyond
 pub mod Carried
 pub mod Complete
 pub mod Conditions

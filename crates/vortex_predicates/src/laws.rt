@@ -1,4 +1,5 @@
 //! Laws of pruning by normal forms, in the words of the definitions.
+ghost use Rattle.vortex_predicates.specs.Beyond.{BeyondGoesFar};
 ghost use Rattle.vortex_predicates.specs.Carried.{SatisfiabilityIsCarried};
 ghost use Rattle.vortex_predicates.specs.EqualBounds.{OneTextIsTold};
 ghost use Rattle.vortex_predicates.specs.Full.{SameSelectsTheSame};
@@ -41,6 +42,12 @@ pub fn null_examples_hold()
     ensures zones { NullZoneExamples }
     ensures one_sided { OneSidedExamples }
     ensures boxes { FarExamples }
+{}
+
+/// Where bounds aren't known, a box goes far enough for a test if its sides there lie beyond all that
+/// the test compares.
+pub fn beyond_goes_far()
+    ensures { BeyondGoesFar }
 {}
 
 /// Where a column's bounds are one text of which a LIKE isn't true, the proof that no row satisfies
