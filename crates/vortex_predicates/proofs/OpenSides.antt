@@ -151,7 +151,7 @@ range_is o x l u NonStrict NonStrict a b is = rw is (node_is _ (between o x l u)
 range_never : (o : BetweenOptions) (x l u : Tree Place) → ends o l u ≡ None → falsifier [] (between o x l u) ≡ Some (bool_literal true)
 range_never o x l u is = rw is (node_is _ (between o x l u) (Some (bool_literal true)))
 
-if_same : (b : Bool) (x e : Tree Place) → (if b then Some x else None) ≡ Some e → x ≡ e
+pub if_same : (b : Bool) (x e : Tree Place) → (if b then Some x else None) ≡ Some e → x ≡ e
 if_same true x e h = same_Some _ _ h
 if_same false x e h = absurd (none-some e h)
 

@@ -16,7 +16,7 @@ ghost use Rattle.vortex_predicates.specs.Complete.{AreIndexesIf, is_decided};
 ghost use Rattle.vortex_predicates.specs.NullBoxes as null_boxes;
 ghost use Rattle.vortex_predicates.specs.NullBoxes.{is_a_column};
 
-use crate::pruning_predicate::is_shallow;
+use crate::pruning_predicate::{is_shallow, narrowed_test};
 use std::alloc::{AllocError, Global};
 use std::collections::BTreeSet;
 use vortex_base::dtype::DType;
@@ -25,7 +25,7 @@ use vortex_base::scalar_value::ScalarValue;
 use vortex_expr::bound_expression::BoundExpression;
 use vortex_expr::bound_expression::parts::Parts;
 use vortex_expr::scalar_fn::{BetweenOptions, Operator, StrictComparison};
-use vortex_normal::normalize::{narrow, normal_test, normalize};
+use vortex_normal::normalize::normalize;
 use vortex_stats::error::StatsError;
 
 // Joins two sets, by moving the smaller one into the larger one.
@@ -247,15 +247,10 @@ fn is_null_decided(
     ensures not_predicate { is_predicate predicate.now ≡ false → result ≡ Err NotPredicate }
     ensures memory { IsTrue (is_predicate predicate.now) → IfErr result IsMemory }
 {
-    let test = normal_test(alloc, wanted, with_null, predicate)?;
-    if !is_shallow(&test, levels) {
-        return Ok(false);
+    match narrowed_test(alloc, levels, wanted, with_null, predicate)? {
+        Some(test) => Ok(is_null_apart(alloc, &test)?),
+        None => Ok(false),
     }
-    let narrowed = narrow(alloc, &test)?;
-    if !is_shallow(&narrowed, levels) {
-        return Ok(false);
-    }
-    Ok(is_null_apart(alloc, &narrowed)?)
 }
 
 /// Returns whether pruning by a predicate is complete by built-in rules with known null counts:

@@ -1,6 +1,7 @@
 //! A predicate with all proofs that are worth trying, made once and good for any map of zones.
 ghost use Rattle.std.specs.Prelude.{◌≡◌, ℕ, List, [], Err, IfErr, IfOk, IfSome, IsTrue, false};
 ghost use Rattle.std.specs.Prelude.{None, Option, Some, length, option_copied, true};
+ghost use Rattle.std.specs.Prelude.{if◌then◌else◌};
 ghost use Rattle.vortex_expr.specs.Meanings.Fitting.{fits_scope};
 ghost use Rattle.vortex_expr.specs.Trees.Tree.{Place, is_plain};
 ghost use Rattle.vortex_stats.specs.declared.error.StatsError.TheVariants.{NotPredicate};
@@ -18,7 +19,7 @@ ghost use Rattle.vortex_prune.specs.Scanning.ZoneScans.{open_causes, zone_verdic
 ghost use Rattle.vortex_zone_map.specs.ZoneMaps.{IsMapOf};
 ghost use Rattle.vortex_normal.specs.Groups.{normal as normal_of};
 ghost use Rattle.vortex_normal.specs.OneColumn.{IsJoining, IsSelective, are_ends_seen, is_over};
-ghost use Rattle.vortex_normal.specs.Strict.{strict_test as strict_of};
+ghost use Rattle.vortex_normal.specs.Strict.{narrow_test as narrow_of, strict_test as strict_of};
 ghost use Rattle.vortex_predicates.specs.Complete.{is_decided};
 ghost use Rattle.vortex_predicates.specs.NullBoxes.{FindsCertain, HasTestForms, SkipsImpossible};
 ghost use Rattle.vortex_predicates.specs.NullBoxes.{is_null_decided};
@@ -87,6 +88,34 @@ pub(crate) fn is_shallow(form: &BoundExpression, levels: Option<u32>) -> bool
     }
 }
 
+// The narrowed test of a predicate's truth, unless that or the normal test is deeper.
+pub(crate) fn narrowed_test(
+    alloc: Global,
+    levels: Option<u32>,
+    wanted: bool,
+    with_null: bool,
+    predicate: &BoundExpression,
+) -> Result<Option<BoundExpression>, StatsError>
+    ensures value { let p = predicate.now in
+        let within = is_test_within levels wanted with_null p in
+        let narrowed = narrow_of wanted with_null p in
+        IfOk result (λ test. test ≡ (if within then Some narrowed else None)) }
+    ensures form { IfOk result (λ test. IfSome test (IsTestForm wanted with_null predicate.now)) }
+    ensures not_predicate { is_predicate predicate.now ≡ false → result ≡ Err NotPredicate }
+    ensures memory { IsTrue (is_predicate predicate.now) → IfErr result IsMemory }
+{
+    let test = normal_test(alloc, wanted, with_null, predicate)?;
+    if !is_shallow(&test, levels) {
+        return Ok(None);
+    }
+    let narrowed = narrow(alloc, &test)?;
+    if is_shallow(&narrowed, levels) {
+        Ok(Some(narrowed))
+    } else {
+        Ok(None)
+    }
+}
+
 // The proof that no row satisfies a test of a predicate's truth, unless a form of that is deeper.
 fn test_proof(
     alloc: Global,
@@ -109,15 +138,10 @@ fn test_proof(
         IfErr result (IsRefusal
         (falsifying_causes own (strict_of wanted with_null predicate.now))) }
 {
-    let test = normal_test(alloc, wanted, with_null, predicate)?;
-    if !is_shallow(&test, levels) {
+    let Some(test) = narrowed_test(alloc, levels, wanted, with_null, predicate)? else {
         return Ok(None);
-    }
-    let narrowed = narrow(alloc, &test)?;
-    if !is_shallow(&narrowed, levels) {
-        return Ok(None);
-    }
-    let form = strict(alloc, &narrowed)?;
+    };
+    let form = strict(alloc, &test)?;
     let proof = form_proof(alloc, &form, rules)?;
     Ok(proof)
 }
