@@ -1,6 +1,6 @@
--- A box whose sides lie beyond all that a test compares goes far enough.
-use Rattle.std.proofs.Common.{◌≡◌, ◌≢◌, ◌==◌, Bool, true, false, not as not_b, ◌&&◌, ◌||◌, List, [], ◌∷◌, ◌++◌, Option, Some, None, refl, sym, ap}
-use Rattle.std.specs.Prelude.{IsTrue}
+-- A box whose sides lie beyond all that a test compares goes far enough, and so does one of known bounds.
+use Rattle.std.proofs.Common.{◌≡◌, ◌≢◌, ◌==◌, Bool, true, false, not as not_b, ◌&&◌, ◌||◌, List, [], ◌∷◌, ◌++◌, Option, Some, None, refl, sym, ap, ap₂}
+use Rattle.std.specs.Prelude.{IsTrue, MatchOption, is_none, slice_get}
 use Rattle.std.specs.List.{AllByRecursion}
 use Rattle.std.specs.Option.{is_some}
 use Rattle.std.specs.declared.cmp.Ordering.{Ordering}
@@ -16,12 +16,18 @@ use Rattle.vortex_expr.specs.declared.scalar_fn.Operator.{Operator}
 use Rattle.vortex_expr.specs.declared.scalar_fn.Operator.TheVariants.{Eq, NotEq, Gt, Gte, Lt, Lte, And, Or}
 use Rattle.vortex_expr.specs.declared.scalar_fn.StrictComparison.{StrictComparison}
 use Rattle.vortex_expr.specs.declared.scalar_fn.StrictComparison.TheVariants.{Strict, NonStrict}
-use Rattle.vortex_predicates.specs.Beyond.{BeyondGoesFar, IsBeyond, operands_of}
-use Rattle.vortex_predicates.specs.NullBoxes.{NullBox, goes_far, high_of, is_either_open, is_met, is_met_if_open, is_simple_or_null, low_of}
-use Rattle.vortex_prune.specs.Part.{ZoneData}
+use Rattle.vortex_predicates.proofs.NullChoices.{number_differs}
+use Rattle.vortex_predicates.specs.Beyond.{BeyondGoesFar, BoundedGoesFar, IsBeyond, IsBounded, operands_of}
+use Rattle.vortex_predicates.specs.NullBoxes.{NullBox, goes_far, has_values, high_of, is_either_open, is_met, is_met_if_open, is_open, is_simple_or_null, lacks, low_of}
+use Rattle.vortex_prune.specs.Part.{Entries, ZoneData}
+use Rattle.vortex_prune.specs.Scanning.Complete.{IsKnownBy}
 use Rattle.vortex_rewrite.proofs.Completeness.Choices.{all_back, all_front, all_map}
 use Rattle.vortex_rewrite.proofs.Soundness.TruthLogic.{clash}
 use Rattle.vortex_rewrite.specs.Rewriting.ReadOnce.{are_apart, are_distinct, are_sides_apart, columns_of, has_index, is_operand}
+use Rattle.vortex_stats.specs.Precision.{present_value}
+use Rattle.vortex_stats.specs.Sets.Entries.{entry_value}
+use Rattle.vortex_stats.specs.declared.stat.Stat.{Stat}
+use Rattle.vortex_stats.specs.declared.stat.Stat.TheVariants.{Max, Min}
 
 -- ---- what is below is at most, and differs
 
@@ -134,3 +140,72 @@ pub beyond_goes_far : BeyondGoesFar
 beyond_goes_far zone box test apart h =
     let k = and_parts (is_simple_or_null test) (are_sides_apart test) apart in
     beyond zone box test k.0 k.1 h
+
+-- ---- known bounds
+
+neither_asked : (a b s t : Bool) → (a && s) ≡ false → (b && t) ≡ false → ((a && b) && (s || t)) ≡ false
+neither_asked true true true t h k = cc
+neither_asked true true false t h k = k
+neither_asked true false s t h k = refl
+neither_asked false b s t h k = refl
+
+is_there : (o : Option Entries) (P : Entries → Type 0) (s : Stat) → ((es : Entries) → P es → is_none (present_value (entry_value s es)) ≡ false) → MatchOption o ⊥ P → lacks s o ≡ false
+is_there (Some es) P s f h = f es h
+is_there None P s f h = absurd h
+
+module _ (zone : ZoneData) (box : NullBox) where
+  shut : (s : Stat) (c : Place) → ((es : Entries) → IsKnownBy box.bounds c.index es → is_none (present_value (entry_value s es)) ≡ false) → IsBounded zone box c
+      → (b : Bool) → (box.nulls c.index == zone.rows) ≡ b → (not_b b && is_open zone box s (column c)) ≡ false
+  shut s c f k true e = refl
+  shut s c f k false e = is_there (slice_get zone.stats c.index) (IsKnownBy box.bounds c.index) s f (k (number_differs (box.nulls c.index) zone.rows e))
+
+  low_shut : (x : Tree Place) → AllByRecursion (IsBounded zone box) (columns_of x) → (has_values zone box x && is_open zone box Min x) ≡ false
+  low_shut (column c) k = shut Min c (λ es w. ap is_none w.0) k.0 (box.nulls c.index == zone.rows) refl
+  low_shut x k = refl
+
+  high_shut : (x : Tree Place) → AllByRecursion (IsBounded zone box) (columns_of x) → (has_values zone box x && is_open zone box Max x) ≡ false
+  high_shut (column c) k = shut Max c (λ es w. ap is_none w.1) k.0 (box.nulls c.index == zone.rows) refl
+  high_shut x k = refl
+
+  module _ (x y : Tree Place) (hx : AllByRecursion (IsBounded zone box) (columns_of x)) (hy : AllByRecursion (IsBounded zone box) (columns_of y)) where
+    none_open : is_either_open zone box x y ≡ false
+    none_open = neither_asked (has_values zone box x) (has_values zone box y) (is_open zone box Min x) (is_open zone box Max y) (low_shut x hx) (high_shut y hy)
+
+    unasked : (o : Operator) → is_met_if_open zone box o x y ≡ true
+    unasked o = ap (λ b. not_b b || is_met zone box o x y) none_open
+
+  module _ (l r : Tree Place) (hl : AllByRecursion (IsBounded zone box) (columns_of l)) (hr : AllByRecursion (IsBounded zone box) (columns_of r)) where
+    equals_unasked : goes_far zone box (binary Eq l r) ≡ true
+    equals_unasked = both_hold (is_met_if_open zone box Lte l r) (is_met_if_open zone box Lte r l) (unasked l r hl hr Lte) (unasked r l hr hl Lte)
+
+    differs_unasked : goes_far zone box (binary NotEq l r) ≡ true
+    differs_unasked = ap₂ (λ a b. not_b (a || b) || (is_met zone box NotEq l r || is_met zone box NotEq r l)) (none_open l r hl hr) (none_open r l hr hl)
+
+  bounded : (q : Tree Place) → AllByRecursion (IsBounded zone box) (columns_of q) → goes_far zone box q ≡ true
+  bounded (binary o l r) k = by_operator o (bounded l (all_front (IsBounded zone box) (columns_of l) (columns_of r) k)) (bounded r (all_back (IsBounded zone box) (columns_of l) (columns_of r) k))
+    where
+      hl : AllByRecursion (IsBounded zone box) (columns_of l)
+      hl = all_front (IsBounded zone box) (columns_of l) (columns_of r) k
+
+      hr : AllByRecursion (IsBounded zone box) (columns_of r)
+      hr = all_back (IsBounded zone box) (columns_of l) (columns_of r) k
+
+      by_operator : (o : Operator) → goes_far zone box l ≡ true → goes_far zone box r ≡ true → goes_far zone box (binary o l r) ≡ true
+      by_operator And f g = both_hold (goes_far zone box l) (goes_far zone box r) f g
+      by_operator Or f g = both_hold (goes_far zone box l) (goes_far zone box r) f g
+      by_operator Eq f g = equals_unasked l r hl hr
+      by_operator NotEq f g = differs_unasked l r hl hr
+      by_operator Gt f g = unasked r l hr hl Lt
+      by_operator Gte f g = unasked r l hr hl Lte
+      by_operator Lt f g = unasked l r hl hr Lt
+      by_operator Lte f g = unasked l r hl hr Lte
+  bounded (between o x l u) k =
+      let ends = all_back (IsBounded zone box) (columns_of x) (columns_of l ++ columns_of u) k in
+      let hx = all_front (IsBounded zone box) (columns_of x) (columns_of l ++ columns_of u) k in
+      both_hold (is_met_if_open zone box (to_operator o.lower_strict) l x) (is_met_if_open zone box (to_operator o.upper_strict) x u)
+      (unasked l x (all_front (IsBounded zone box) (columns_of l) (columns_of u) ends) hx (to_operator o.lower_strict))
+      (unasked x u hx (all_back (IsBounded zone box) (columns_of l) (columns_of u) ends) (to_operator o.upper_strict))
+  bounded q k = refl
+
+pub bounded_goes_far : BoundedGoesFar
+bounded_goes_far zone box test k = bounded zone box test k

@@ -1,5 +1,5 @@
 //! Laws of pruning by normal forms, in the words of the definitions.
-ghost use Rattle.vortex_predicates.specs.Beyond.{BeyondGoesFar};
+ghost use Rattle.vortex_predicates.specs.Beyond.{BeyondGoesFar, BoundedGoesFar};
 ghost use Rattle.vortex_predicates.specs.Carried.{SatisfiabilityIsCarried};
 ghost use Rattle.vortex_predicates.specs.EqualBounds.{OneTextIsTold};
 ghost use Rattle.vortex_predicates.specs.Full.{SameSelectsTheSame};
@@ -48,6 +48,11 @@ pub fn null_examples_hold()
 /// the test compares.
 pub fn beyond_goes_far()
     ensures { BeyondGoesFar }
+{}
+
+/// Where both bounds of each column with values are known, no box is asked to go further.
+pub fn bounded_goes_far()
+    ensures { BoundedGoesFar }
 {}
 
 /// Where a column's bounds are one text of which a LIKE isn't true, the proof that no row satisfies
