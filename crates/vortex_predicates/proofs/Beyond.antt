@@ -19,7 +19,7 @@ use Rattle.vortex_expr.specs.declared.scalar_fn.StrictComparison.TheVariants.{St
 use Rattle.vortex_predicates.proofs.NullChoices.{number_differs}
 use Rattle.vortex_predicates.specs.Beyond.{BeyondGoesFar, BoundedGoesFar, IsBeyond, IsBounded, operands_of}
 use Rattle.vortex_predicates.specs.NullBoxes.{NullBox, goes_far, has_values, high_of, is_either_open, is_met, is_met_if_open, is_open, is_simple_or_null, lacks, low_of}
-use Rattle.vortex_prune.specs.Part.{Entries, ZoneData}
+use Rattle.vortex_zone_map.specs.Zone.{Entries, ZoneData}
 use Rattle.vortex_prune.specs.Scanning.Complete.{IsKnownBy}
 use Rattle.vortex_rewrite.proofs.Completeness.Choices.{all_back, all_front, all_map}
 use Rattle.vortex_rewrite.proofs.Soundness.TruthLogic.{clash}

@@ -18,5 +18,6 @@ pub mod Carried
 pub mod Conditions
 pub mod Footers
 pub mod Found
+pub mod OneSidedWitnesses
 pub mod PredicateWitnesses
 pub mod RowGroups

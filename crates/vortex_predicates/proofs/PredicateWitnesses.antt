@@ -2,7 +2,6 @@
 use Rattle.std.specs.Prelude.{◌≡◌, ◌&&◌, ℕ, zero, suc, Bool, Contains, false, true, not as not_b, IsTrue, List, [], ◌∷◌, Option, Some, None, Result, Ok, Err, refl, slice_get}
 use Rattle.std.specs.Ordering.{is_gt}
 use Rattle.std.proofs.Common.{◌∙◌, ap, arith, subst, sym}
-use Rattle.std.proofs.lemmas.Option.{same_Some}
 use Rattle.vortex_base.specs.declared.dtype.DType.{DType}
 use Rattle.vortex_base.specs.declared.dtype.DType.TheVariants as dtype
 use Rattle.vortex_base.specs.declared.scalar_value.ScalarValue.{ScalarValue}
@@ -29,14 +28,13 @@ use Rattle.vortex_prune.proofs.WorkedRows.Witnesses.Parts.{a, above_ten, high, h
 use Rattle.vortex_zone_map.proofs.WorkedRows.Witnesses.{IsWitness, i64_type, num, scope}
 use Rattle.vortex_prune.proofs.WorkedRows.Witnesses.Pruning.{answered_is_not_refused, built_in, open_is_not_memory, own_rules, shut}
 use Rattle.vortex_prune.specs.Part.{zone_of}
-use Rattle.vortex_zone_map.specs.Zone.{Entries, IsZone, ZoneData}
 use Rattle.vortex_prune.specs.Scanning.Complete.{IsBoxIn}
 use Rattle.vortex_prune.specs.Scanning.ZoneScans.{IsSoundPruning, kept_zones, open_causes, zone_verdicts}
-use Rattle.vortex_zone_map.specs.ZoneMaps.{IsMapOf, MapData, zone_map}
+use Rattle.vortex_zone_map.specs.ZoneMaps.{IsMapOf, MapData}
 use Rattle.vortex_prune.specs.declared.scan.verdict.Verdict.{Verdict}
 use Rattle.vortex_prune.specs.declared.scan.verdict.Verdict.TheVariants.{Skipped, Whole, Tested}
-use Rattle.vortex_rewrite.proofs.Soundness.TruthLogic.{clash, refuted as not_so}
-use Rattle.vortex_rewrite.proofs.Soundness.ValueTests.{gt_le, holds_by_le, le_antisym, le_trans, value_le}
+use Rattle.vortex_rewrite.proofs.Soundness.TruthLogic.{refuted as not_so}
+use Rattle.vortex_rewrite.proofs.Soundness.ValueTests.{holds_by_le, le_antisym, le_trans, value_le}
 use Rattle.vortex_rewrite.specs.Answers.{IsMemory}
 use Rattle.vortex_rewrite.specs.Causes.{IsRefusal, either_causes}
 use Rattle.vortex_rewrite.specs.Rewriting.Falsifiers.{node, reduce_balanced}
@@ -45,15 +43,12 @@ use Rattle.vortex_rewrite.specs.Rewriting.Predicates.{is_predicate}
 use Rattle.vortex_rewrite.specs.Rewriting.ReadOnce.{Box, IsInOrder, IsSatisfiable, is_apart}
 use Rattle.vortex_rewrite.specs.Rewriting.RuleRefusals.{SomeAsked}
 use Rattle.vortex_rewrite.specs.Rewriting.Visited.{visited}
-use Rattle.vortex_stats.specs.Sets.Claims.{count_value}
 use Rattle.vortex_stats.specs.declared.error.RuleFault.TheVariants.{Own}
 use Rattle.vortex_stats.specs.declared.error.StatsError.{StatsError}
 use Rattle.vortex_stats.specs.declared.error.StatsError.TheVariants.{NotPredicate, OpenProof, Rule}
-use Rattle.vortex_stats.specs.declared.precision.Precision.TheVariants.{Exact}
-use Rattle.vortex_stats.specs.declared.stat.Stat.TheVariants.{Max, Min, NullCount}
 use mathlib.Core.Bool.{true≢false}
 
-abbrev place_a : Place
+abbrev pub place_a : Place
 place_a = record { index = 0; dtype = i64_type }
 
 -- ---- a predicate with its proofs by the built-in rules
@@ -71,19 +66,19 @@ unfolding all_of any_of comparison comparison_of folded settled
 same_form = record { predicate = refl; same = λ row n r f small. refl; columns = λ test h. h; plain = λ h. refl }
 
 -- the only column is named twice
-named_twice : (b : Bool) → IsTrue (b && true) → IsTrue ((b && true) && b)
+pub named_twice : (b : Bool) → IsTrue (b && true) → IsTrue ((b && true) && b)
 named_twice true h = refl
 named_twice false h = cc
 
-named_twice_behind : (b : Bool) → IsTrue (b && true) → IsTrue (b && ((b && true) && b))
+pub named_twice_behind : (b : Bool) → IsTrue (b && true) → IsTrue (b && ((b && true) && b))
 named_twice_behind true h = refl
 named_twice_behind false h = cc
 
-if_above : (b : Bool) → is_true (truth_value (both (Some b) (Some true))) ≡ passes true false (Some b)
+pub if_above : (b : Bool) → is_true (truth_value (both (Some b) (Some true))) ≡ passes true false (Some b)
 if_above true = refl
 if_above false = refl
 
-if_not_above : (b : Bool) → is_true (truth_value (either (Some false) (truth (truth_value (both (Some (not_b b)) (Some true)))))) ≡ passes false true (Some b)
+pub if_not_above : (b : Bool) → is_true (truth_value (either (Some false) (truth (truth_value (both (Some (not_b b)) (Some true)))))) ≡ passes false true (Some b)
 if_not_above true = refl
 if_not_above false = refl
 
@@ -167,7 +162,7 @@ none_above_by_normal = (skipping_is_complete (normal above_ten) bool_type scope 
 abbrev left_out : List Verdict
 left_out = Tested ∷ Tested ∷ Whole ∷ []
 
-none_there : (i : ℕ) → Contains [] i → ⊥
+pub none_there : (i : ℕ) → Contains [] i → ⊥
 none_there i (k, less, is) = absurd (omega (arith, less))
 
 pub low_is_left_out : SkipsUnsatisfiable above_ten zones (skipped_places left_out) → ⊥
@@ -179,7 +174,7 @@ low_is_left_out_by_normal h = none_there 0 (h 0 (zone_of low) low_box refl norma
 -- ---- pruning by the proofs
 
 -- the proofs are right, and the predicate fits the map's scope
-abbrev IsCall : Pruning → MapData → Type 0
+abbrev pub IsCall : Pruning → MapData → Type 0
 IsCall x m = IsRight x × IsTrue (fits_scope x.predicate m.scope)
 
 called : IsCall made their_map
@@ -209,7 +204,7 @@ prune_no_fewer_skipped : IsWitness (IsCall made their_map × IsMapOf zones their
 prune_no_fewer_skipped = record { met = (called, is_map, is_made); refuted = low_is_not_there }
 
 -- the third zone is neither skipped nor whole
-abbrev first_place : List ℕ
+abbrev pub first_place : List ℕ
 first_place = 0 ∷ []
 
 not_the_third : Contains first_place 2 → ⊥
@@ -299,82 +294,6 @@ prune_complete_whole : IsWitness (IsCall made their_map × IsMapOf zones their_m
     (λ (vs : List Verdict). FindsCertain made.predicate zones (skipped_places vs) (whole_places vs)) (Skipped ∷ Tested ∷ Tested ∷ [])
 unfolding all_of any_of comparison comparison_of folded settled
 prune_complete_whole = record { met = (called, is_map, is_made, tests, refl); refuted = high_is_not_found }
-
--- ---- by one bound alone: of a null and a value up to 3 none is above ten, and of two values from 20 on each is
-
-abbrev zone_with : Entries → ZoneData
-zone_with es = record { rows = 2; stats = es ∷ [] }
-
-abbrev first_zone : ZoneData
-first_zone = zone_with ((Max, Exact (num 3)) ∷ (NullCount, Exact (count_value 1)) ∷ [])
-
-abbrev second_zone : ZoneData
-second_zone = zone_with ((Min, Exact (num 20)) ∷ (NullCount, Exact (count_value 0)) ∷ [])
-
-abbrev one_sided : List ZoneData
-one_sided = first_zone ∷ second_zone ∷ []
-
-abbrev one_sided_map : MapData
-one_sided_map = zone_map scope one_sided
-
-one_sided_zones : (i : ℕ) (zone : ZoneData) → slice_get one_sided i ≡ Some zone → IsZone scope zone
-one_sided_zones zero zone there = subst (λ (z : ZoneData). IsZone scope z) (same_Some _ zone there) refl
-one_sided_zones (suc zero) zone there = subst (λ (z : ZoneData). IsZone scope z) (same_Some _ zone there) refl
-one_sided_zones (suc (suc i)) zone there = absurd cc
-
-is_one_sided_map : IsMapOf one_sided one_sided_map
-is_one_sided_map = record { are_zones = one_sided_zones; same = refl }
-
-one_sided_called : IsCall made one_sided_map
-one_sided_called = (is_right, refl)
-
--- the low side is a value that no statistic knows
-abbrev up_to_three : NullBox
-up_to_three = record { bounds = record { low = λ i. num 1; high = λ i. num 3 }; nulls = λ i. 1 }
-
-up_to_three_known : IsNullBoxOf first_zone above_ten (narrow_test true false above_ten) up_to_three
-unfolding all_of any_of comparison comparison_of folded settled
-up_to_three_known = record { rows = omega arith; known = (record { nulls = refl; low = λ _. refl; high = λ _. refl; order = λ _. refl }, tt); far = refl }
-
-not_up_to_three : (o : Option ScalarValue) → IsPossibleCell up_to_three 2 place_a o → is_true (truth_value (compared Gt o (Some (num 10)))) ≡ true → ⊥
-not_up_to_three None h above = cc
-not_up_to_three (Some v) h above = clash (le_trans v (num 3) (num 10) (ap not_b h.below_high) refl) (gt_le v (num 10) above)
-
-prune_complete_with_nulls_by_one_bound : IsWitness
-    (IsCall made one_sided_map × IsMapOf one_sided one_sided_map × IsMadeBy [] None made × HasTestForms None made.predicate × IsTrue (is_null_decided None true false made.predicate) × IsNullBoxOf first_zone made.predicate (narrow_test true false made.predicate) up_to_three)
-    (λ (vs : List Verdict). SkipsImpossible made.predicate one_sided (skipped_places vs)) (Tested ∷ Whole ∷ [])
-unfolding all_of any_of comparison comparison_of folded settled
-prune_complete_with_nulls_by_one_bound = record {
-  met = (one_sided_called, is_one_sided_map, is_made, tests, refl, up_to_three_known);
-  refuted = λ h. none_there 0 (h 0 first_zone up_to_three refl up_to_three_known (λ x. not_up_to_three (cell_value (slice_get x.0 0)) x.1.0 x.2));
-}
-
--- and so is the high side here
-abbrev from_twenty_on : NullBox
-from_twenty_on = record { bounds = record { low = λ i. num 20; high = λ i. num 25 }; nulls = λ i. 0 }
-
-from_twenty_on_known : IsNullBoxOf second_zone above_ten (narrow_test false true above_ten) from_twenty_on
-unfolding all_of any_of comparison comparison_of folded settled
-from_twenty_on_known = record { rows = omega arith; known = (record { nulls = refl; low = λ _. refl; high = λ _. refl; order = λ _. refl }, tt); far = refl }
-
-all_from_twenty : (o : Option ScalarValue) → IsPossibleCell from_twenty_on 2 place_a o → is_true (truth_value (compared Gt o (Some (num 10)))) ≡ true
-all_from_twenty None h = absurd (h refl)
-all_from_twenty (Some v) h =
-    holds_by_le Gt v (num 10)
-    ∙ ap not_b (not_so (value_le v (num 10)) (λ below. let no : value_le (num 20) (num 10) ≡ true = le_trans (num 20) v (num 10) (ap not_b h.above_low) below in cc))
-
-not_the_second : Contains first_place 1 → ⊥
-not_the_second (zero, less, is) = cc
-not_the_second (suc k, less, is) = absurd (omega (arith, less))
-
-prune_complete_whole_by_one_bound : IsWitness
-    (IsCall made one_sided_map × IsMapOf one_sided one_sided_map × IsMadeBy [] None made × HasTestForms None made.predicate × IsTrue (is_null_decided None false true made.predicate) × IsNullBoxOf second_zone made.predicate (narrow_test false true made.predicate) from_twenty_on)
-    (λ (vs : List Verdict). FindsCertain made.predicate one_sided (skipped_places vs) (whole_places vs)) (Skipped ∷ Tested ∷ [])
-unfolding all_of any_of comparison comparison_of folded settled
-prune_complete_whole_by_one_bound = record {
-  met = (one_sided_called, is_one_sided_map, is_made, tests, refl, from_twenty_on_known);
-  refuted = λ h. neither not_the_second (none_there 1) (h 1 second_zone from_twenty_on refl from_twenty_on_known (λ row cells. all_from_twenty (cell_value (slice_get row 0)) cells.0));
-}
 
 prune_memory : IsWitness (IsCall made their_map × IsMapOf zones their_map × IsMadeBy [] None made) (λ (e : StatsError). IsMemory e) OpenProof
 prune_memory = record { met = (called, is_map, is_made); refuted = open_is_not_memory }

@@ -5,7 +5,7 @@ use Rattle.vortex_expr.specs.Trees.Tree.{Tree, Place, binary, between}
 use Rattle.vortex_expr.specs.declared.scalar_fn.Operator.{Operator}
 use Rattle.vortex_expr.specs.declared.scalar_fn.Operator.TheVariants.{Lt, And, Or}
 use Rattle.vortex_predicates.specs.NullBoxes.{NullBox, goes_far, is_met_if_open, is_null_apart}
-use Rattle.vortex_prune.specs.Part.{ZoneData}
+use Rattle.vortex_zone_map.specs.Zone.{ZoneData}
 use Rattle.vortex_prune.specs.Scanning.Complete.{IsKnownBy}
 use Rattle.vortex_rewrite.specs.Rewriting.ReadOnce.{columns_of}
 
