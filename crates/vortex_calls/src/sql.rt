@@ -3,6 +3,6 @@
 //! `vortex_ffi` exports it under the name of `callers/c/vortex.h`. It keeps nothing, and every
 //! array is the caller's.
 
-mod condition;
+pub(crate) mod condition;
 pub mod prune_sql;
-mod refusal;
+pub(crate) mod refusal;
