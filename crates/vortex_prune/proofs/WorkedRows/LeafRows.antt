@@ -1,15 +1,17 @@
 -- Worked rows of leaves of a predicate, found by computation alone.
+use Rattle.std.proofs.Common.{Bor, ap}
 use Rattle.std.specs.Prelude.{◌≡◌, ℕ, Bool, true, false, List, [], ◌∷◌, Option, Some, None, map, pos, refl}
+use Rattle.vortex_base.specs.Data.Columns.{ColumnData}
 use Rattle.vortex_base.specs.declared.pvalue.PValue.TheVariants as number
 use Rattle.vortex_base.specs.declared.scalar_value.ScalarValue.{ScalarValue}
 use Rattle.vortex_base.specs.declared.scalar_value.ScalarValue.TheVariants as value
 use Rattle.vortex_expr.specs.declared.scalar_fn.Operator.{Operator}
 use Rattle.vortex_expr.specs.declared.scalar_fn.Operator.TheVariants.{Eq, NotEq, Gt, Gte, Lt, Lte, And, Or}
 use Rattle.vortex_base.specs.declared.value_ref.ValueRef.TheVariants as lent
-use Rattle.vortex_prune.specs.Scanning.Leaves.{compares, compares_with_both_at, is_comparison, meets, passes, passes_at, swapped}
-use Rattle.vortex_prune.specs.declared.scan.leaf.End.{End}
+use Rattle.vortex_prune.specs.Scanning.Leaves.{compares, is_between_at, is_comparison, lies_at, passes, passes_at, swapped}
+use Rattle.vortex_prune.specs.declared.scan.leaf.Ends.{Ends}
 use Rattle.vortex_prune.specs.declared.scan.leaf.Test.{Test}
-use Rattle.vortex_prune.specs.declared.scan.leaf.Test.TheVariants.{Is, Within, Null, NotNull}
+use Rattle.vortex_prune.specs.declared.scan.leaf.Test.TheVariants.{Is, Null, NotNull}
 
 abbrev num : ℕ → Option ScalarValue
 num n = Some (value.Primitive (number.I64 (pos n)))
@@ -87,44 +89,33 @@ null_past_the_end = refl
 passes_alone : passes below_five (num 4) ≡ true
 passes_alone = refl
 
--- ---- two comparisons of a value, with either end left out or not
+-- ---- values between two ends, with either end left out or not
 
-abbrev end : Operator → ℕ → End
-end o n = record { operator = o; value = lent.Primitive (number.I64 (pos n)) }
+abbrev number_value : ℕ → ScalarValue
+number_value n = value.Primitive (number.I64 (pos n))
 
-abbrev within_both : Operator → Operator → List Bool
-within_both low high = map (λ n. passes (Within (end low 3) (end high 6)) (num n)) (2 ∷ 3 ∷ 4 ∷ 6 ∷ 7 ∷ [])
+abbrev between_ends : (lower upper : Operator) → List Bool
+between_ends low high = map (is_between_at low high (number_value 3) (number_value 6) (num 2 ∷ num 3 ∷ num 4 ∷ num 6 ∷ num 7 ∷ None ∷ [])) (0 ∷ 1 ∷ 2 ∷ 3 ∷ 4 ∷ 5 ∷ 6 ∷ [])
 
-both_ends_within : within_both Gte Lte ≡ false ∷ true ∷ true ∷ true ∷ false ∷ []
-both_ends_within = refl
+both_ends_in : between_ends Gte Lte ≡ false ∷ true ∷ true ∷ true ∷ false ∷ false ∷ false ∷ []
+both_ends_in = refl
 
-lower_end_left_out : within_both Gt Lte ≡ false ∷ false ∷ true ∷ true ∷ false ∷ []
-lower_end_left_out = refl
+lower_end_out : between_ends Gt Lte ≡ false ∷ false ∷ true ∷ true ∷ false ∷ false ∷ false ∷ []
+lower_end_out = refl
 
-upper_end_left_out : within_both Gte Lt ≡ false ∷ true ∷ true ∷ false ∷ false ∷ []
-upper_end_left_out = refl
+upper_end_out : between_ends Gte Lt ≡ false ∷ true ∷ true ∷ false ∷ false ∷ false ∷ false ∷ []
+upper_end_out = refl
 
-both_ends_left_out : within_both Gt Lt ≡ false ∷ false ∷ true ∷ false ∷ false ∷ []
-both_ends_left_out = refl
+both_ends_out : between_ends Gt Lt ≡ false ∷ false ∷ true ∷ false ∷ false ∷ false ∷ false ∷ []
+both_ends_out = refl
 
--- nothing lies above the greater end and below the lesser one
-ends_turned_round : within_both Lt Gt ≡ false ∷ false ∷ false ∷ false ∷ false ∷ []
-ends_turned_round = refl
+-- no value lies below the lesser end and above the greater one
+ends_changed : between_ends Lt Gt ≡ false ∷ false ∷ false ∷ false ∷ false ∷ false ∷ false ∷ []
+ends_changed = refl
 
-neither_of_two_values : within_both NotEq NotEq ≡ true ∷ false ∷ true ∷ false ∷ true ∷ []
-neither_of_two_values = refl
+abbrev ends_over : Bor ColumnData → Ends
+ends_over column = record { column = column; lower = Gt; low = lent.Primitive (number.I64 (pos 1)); upper = Lte; high = lent.Primitive (number.I64 (pos 5)) }
 
-null_within_no_ends : passes (Within (end Gte 3) (end Lte 6)) None ≡ false
-null_within_no_ends = refl
-
--- the column's values at three places: below, null and within
-within_at : passes_at (Within (end Gt 1) (end Lt 6)) values 0 ∷ passes_at (Within (end Gt 1) (end Lt 6)) values 1 ∷ passes_at (Within (end Gt 1) (end Lt 6)) values 2 ∷ [] ≡ false ∷ false ∷ true ∷ []
-within_at = refl
-
--- each end counts by its own comparison and value
-with_both : map (compares_with_both_at Gt Lt (value.Primitive (number.I64 (pos 1))) (value.Primitive (number.I64 (pos 5))) (num 1 ∷ num 2 ∷ num 5 ∷ None ∷ [])) (0 ∷ 1 ∷ 2 ∷ 3 ∷ [])
-    ≡ false ∷ true ∷ false ∷ false ∷ []
-with_both = refl
-
-meets_an_end : meets (end Lte 6) (num 6) ∷ meets (end Lte 6) (num 7) ∷ meets (end Lte 6) None ∷ [] ≡ true ∷ false ∷ false ∷ []
-meets_an_end = refl
+-- a column's values at three places: at the lower end, null and within
+lies_within : (column : Bor ColumnData) → column.now.values ≡ values → map (lies_at (ends_over column)) (0 ∷ 1 ∷ 2 ∷ []) ≡ false ∷ false ∷ true ∷ []
+lies_within column is = ap (λ vs. map (is_between_at Gt Lte (number_value 1) (number_value 5) vs) (0 ∷ 1 ∷ 2 ∷ [])) is

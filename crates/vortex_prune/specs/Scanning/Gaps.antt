@@ -11,10 +11,10 @@ use Rattle.vortex_expr.specs.Meanings.Meaning.{is_true, meaning, satisfies}
 use Rattle.vortex_expr.specs.Trees.Tree.{Tree, Place, binary}
 use Rattle.vortex_expr.specs.declared.scalar_fn.Operator.{Operator}
 use Rattle.vortex_expr.specs.declared.scalar_fn.Operator.TheVariants as operator
-use Rattle.vortex_prune.specs.Scanning.Leaves.{IsColumnOf, compares, passes_at}
+use Rattle.vortex_prune.specs.Scanning.Leaves.{IsColumnOf, compares, lies_at}
 use Rattle.vortex_prune.specs.Scanning.Marks.{count_at, is_true_at, marked}
 use Rattle.vortex_prune.specs.declared.scan.gaps.Gap.{Gap}
-use Rattle.vortex_prune.specs.declared.scan.leaf.Test.{Test}
+use Rattle.vortex_prune.specs.declared.scan.leaf.Ends.{Ends}
 use Rattle.vortex_prune.specs.declared.scan.sides.Flag.{Flag}
 use Rattle.vortex_prune.specs.declared.scan.sides.Side.{Side}
 use Rattle.vortex_prune.specs.declared.scan.marks.Counts.{Counts}
@@ -95,10 +95,9 @@ pub record IsSideOf (cs : List ColumnData) (e : Tree Place) (s : Side) : Type 0 
   pub told : (row : List Constant) (n : ℕ) → satisfies e row n ≡ side_passes s (meaning s.operand.now row n)
   pub column : IsColumnOf cs s.operand.now s.column.now
 
--- both comparisons are true on exactly those rows of some columns where a column's value passes
-abbrev pub AreSides : List ColumnData → (first second : Side) → ColumnData → Test → Type 0
-AreSides cs a b c t =
-    (r n : ℕ) → (side_passes a (meaning a.operand.now (row_of r cs) n) && side_passes b (meaning b.operand.now (row_of r cs) n)) ≡ passes_at t c.values r
+-- two comparisons are both true on exactly those rows of some columns where a column's value lies between the ends
+abbrev pub AreSides : List ColumnData → (first second : Side) → Ends → Type 0
+AreSides cs a b ends = (r n : ℕ) → (side_passes a (meaning a.operand.now (row_of r cs) n) && side_passes b (meaning b.operand.now (row_of r cs) n)) ≡ lies_at ends r
 
 -- a comparison of two expressions
 pub record IsBeside (cs : List ColumnData) (o : Operator) (l r : Tree Place) (s : Side) : Type 0 where

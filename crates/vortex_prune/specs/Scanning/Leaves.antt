@@ -10,9 +10,9 @@ use Rattle.vortex_base.specs.Data.Columns.{ColumnData, row_of, value_at}
 use Rattle.vortex_base.specs.Data.Scalars.{Constant}
 use Rattle.vortex_expr.specs.Meanings.Meaning.{compared, is_true, liked, meaning, satisfies, truth_value}
 use Rattle.vortex_expr.specs.Trees.Tree.{Tree, Place}
-use Rattle.vortex_prune.specs.declared.scan.leaf.End.{End}
+use Rattle.vortex_prune.specs.declared.scan.leaf.Ends.{Ends}
 use Rattle.vortex_prune.specs.declared.scan.leaf.Test.{Test}
-use Rattle.vortex_prune.specs.declared.scan.leaf.Test.TheVariants.{Is, Within, Like, Null, NotNull}
+use Rattle.vortex_prune.specs.declared.scan.leaf.Test.TheVariants.{Is, Like, Null, NotNull}
 
 -- the operator compares its sides
 abbrev pub is_comparison : Operator → Bool
@@ -36,22 +36,21 @@ compares o a b = is_true (truth_value (compared o a b))
 abbrev pub compares_at : Operator → ScalarValue → List (Option ScalarValue) → ℕ → Bool
 compares_at o v xs r = compares o (value_at (slice_get xs r)) (Some v)
 
--- that of it with two values, one after the other
-abbrev pub compares_with_both_at : (first second : Operator) → (v w : ScalarValue) → List (Option ScalarValue) → ℕ → Bool
-compares_with_both_at o p v w xs r = compares_at o v xs r && compares_at p w xs r
+-- the optional value at a place lies between two ends: it compares so with each
+abbrev pub is_between_at : (lower upper : Operator) → (low high : ScalarValue) → List (Option ScalarValue) → ℕ → Bool
+is_between_at o p v w xs r = compares_at o v xs r && compares_at p w xs r
+
+-- the column's value at a place lies between the ends
+abbrev pub lies_at : Ends → ℕ → Bool
+lies_at e r = is_between_at e.lower e.upper (value_of e.low) (value_of e.high) e.column.now.values r
 
 -- the match of an optional text with an optional pattern is true
 abbrev pub likes : LikeOptions → (text pattern : Option ScalarValue) → Bool
 likes o t p = is_true (truth_value (liked o t p))
 
--- an optional value meets an end: it compares so with the end's value
-abbrev pub meets : End → Option ScalarValue → Bool
-meets e x = compares e.operator x (Some (value_of e.value))
-
 -- an optional value passes
 abbrev pub passes : Test → Option ScalarValue → Bool
 passes (Is o v) x = compares o x (Some (value_of v))
-passes (Within a b) x = meets a x && meets b x
 passes (Like o p) x = likes o x (Some (value.Utf8 p.now))
 passes Null x = is_none x
 passes NotNull x = not_b (is_none x)
@@ -72,14 +71,6 @@ IsValue e v = (row : List Constant) (n : ℕ) → meaning e row n ≡ Some v
 abbrev pub IsComparison : List ColumnData → Operator → (left right : Tree Place) → ColumnData → Test → Type 0
 IsComparison cs o left right c t = (r n : ℕ) → compares o (meaning left (row_of r cs) n) (meaning right (row_of r cs) n) ≡ passes_at t c.values r
 
--- both ends are met by exactly those optional values that pass
-abbrev pub IsPair : (first second : End) → Test → Type 0
-IsPair a b t = (x : Option ScalarValue) → (meets a x && meets b x) ≡ passes t x
-
--- two expressions are both true on exactly those rows where the column's value passes
-abbrev pub AreBoth : List ColumnData → (left right : Tree Place) → ColumnData → Test → Type 0
-AreBoth cs left right c t = (r n : ℕ) → (satisfies left (row_of r cs) n && satisfies right (row_of r cs) n) ≡ passes_at t c.values r
-
 -- the match of a text with a pattern is true on exactly those rows where the column's value passes
 abbrev pub IsLike : List ColumnData → LikeOptions → (text pattern : Tree Place) → ColumnData → Test → Type 0
 IsLike cs o x p c t = (r n : ℕ) → likes o (meaning x (row_of r cs) n) (meaning p (row_of r cs) n) ≡ passes_at t c.values r
@@ -87,3 +78,7 @@ IsLike cs o x p c t = (r n : ℕ) → likes o (meaning x (row_of r cs) n) (meani
 -- the expression is
 abbrev pub IsLeaf : List ColumnData → Tree Place → ColumnData → Test → Type 0
 IsLeaf cs e c t = (r n : ℕ) → satisfies e (row_of r cs) n ≡ passes_at t c.values r
+
+-- the expression is true on exactly those rows where the column's value lies between the ends
+abbrev pub IsBetween : List ColumnData → Tree Place → Ends → Type 0
+IsBetween cs e ends = (r n : ℕ) → satisfies e (row_of r cs) n ≡ lies_at ends r

@@ -2,11 +2,11 @@
 ghost use Rattle.std.specs.Prelude.{◌≡◌, ◌+◌, ◌<◌, ◌≤◌, ◌^◌, ◌&&◌, None, false, length, map, not, option_map, replicate, slice_index_or};
 ghost use Rattle.vortex_base.specs.Data.Natives.{optionals};
 ghost use Rattle.vortex_base.specs.declared.scalar_value.ScalarValue.TheVariants as value;
-ghost use Rattle.vortex_prune.specs.Scanning.Leaves.{compares_at, compares_with_both_at, passes_at};
+ghost use Rattle.vortex_prune.specs.Scanning.Leaves.{compares_at, is_between_at, lies_at, passes_at};
 ghost use Rattle.vortex_prune.specs.Scanning.Marks.{marked};
 
 use crate::scan::comparison::{Above, AtLeast, AtMost, Below, Comparison, match_each_comparison};
-use crate::scan::leaf::{Test, passes};
+use crate::scan::leaf::{Ends, Test, passes};
 use crate::scan::like::keep_like;
 use crate::scan::strings::{Strings, keep_strings};
 use vortex_base::cells::Cells;
@@ -47,29 +47,6 @@ fn keep_compared<T: Native, C: Comparison>(
     }
 }
 
-// Takes away the marks, from a place on, at which either of two comparisons with numbers isn't
-// true. Each value is looked at once for both.
-fn keep_between<T: Native, L: Comparison, U: Comparison>(
-    values: &[T],
-    there: &[bool],
-    low: T,
-    high: T,
-    from: usize,
-    marks: &mut [bool],
-)
-    requires long { length values.now ≡ length there.now }
-    requires within { from + length marks.old ≤ length there.now }
-    ensures { let cells = map (option_map T.scalar) (optionals values.now there.now) in
-        let test = compares_with_both_at L.operator U.operator (T.scalar low) (T.scalar high) in
-        marks.new ≡ marked (test cells) from marks.old }
-{
-    for k in 0..marks.len() {
-        let is_above = is_so::<T, L>(values, there, from + k, low);
-        let is_below = is_so::<T, U>(values, there, from + k, high);
-        marks[k] = marks[k] & (is_above & is_below);
-    }
-}
-
 // Takes away the marks, from a place on, at which the comparison with a number isn't true.
 fn keep_natives<T: Native>(
     values: &[T],
@@ -89,43 +66,6 @@ fn keep_natives<T: Native>(
         keep_compared::<T>(values, there, number, from, marks),
         marks.fill(false)
     )
-}
-
-// Takes away the marks, from a place on, at which a number doesn't lie between two ends.
-fn keep_within<T: Native>(
-    values: &[T],
-    there: &[bool],
-    lower: Operator,
-    low: T,
-    upper: Operator,
-    high: T,
-    from: usize,
-    marks: &mut [bool],
-)
-    requires long { length values.now ≡ length there.now }
-    requires within { from + length marks.old ≤ length there.now }
-    ensures { let cells = map (option_map T.scalar) (optionals values.now there.now) in
-        let test = compares_with_both_at lower upper (T.scalar low) (T.scalar high) in
-        marks.new ≡ marked (test cells) from marks.old }
-{
-    match (lower, upper) {
-        (Operator::Gt, Operator::Lt) => {
-            keep_between::<T, Above, Below>(values, there, low, high, from, marks);
-        }
-        (Operator::Gt, Operator::Lte) => {
-            keep_between::<T, Above, AtMost>(values, there, low, high, from, marks);
-        }
-        (Operator::Gte, Operator::Lt) => {
-            keep_between::<T, AtLeast, Below>(values, there, low, high, from, marks);
-        }
-        (Operator::Gte, Operator::Lte) => {
-            keep_between::<T, AtLeast, AtMost>(values, there, low, high, from, marks);
-        }
-        _ => {
-            keep_natives(values, there, lower, low, from, marks);
-            keep_natives(values, there, upper, high, from, marks);
-        }
-    }
 }
 
 // Takes away the marks, from a place on, at which a truth is set.
@@ -206,13 +146,6 @@ fn keep_typed<T: Native>(
             Some(number) => keep_natives(values, there, operator, number, from, marks),
             None => keep_values(column, test, from, marks),
         },
-        Test::Within(first, second) => match (T::of_lent(first.value), T::of_lent(second.value)) {
-            (Some(low), Some(high)) => {
-                let (lower, upper) = (first.operator, second.operator);
-                keep_within(values, there, lower, low, upper, high, from, marks);
-            }
-            _ => keep_values(column, test, from, marks),
-        },
         Test::Like(_, _) => keep_values(column, test, from, marks),
     }
 }
@@ -229,19 +162,10 @@ fn keep_lent<S: Strings>(
     requires same { column.now.values ≡ map (option_map S.scalar) (S.strings strings.now) }
     ensures { marks.new ≡ marked (passes_at test.entry column.now.values) from marks.old }
 {
-    match test {
-        Test::Is(operator, other) => {
-            if let Some(bytes) = S::bytes_of(other) {
-                return keep_strings(strings, operator, bytes, from, marks);
-            }
+    if let Test::Is(operator, other) = test {
+        if let Some(bytes) = S::bytes_of(other) {
+            return keep_strings(strings, operator, bytes, from, marks);
         }
-        Test::Within(first, second) => {
-            if let (Some(low), Some(high)) = (S::bytes_of(first.value), S::bytes_of(second.value)) {
-                keep_strings(strings, first.operator, low, from, marks);
-                return keep_strings(strings, second.operator, high, from, marks);
-            }
-        }
-        _ => {}
     }
     keep_values(column, test, from, marks)
 }
@@ -269,4 +193,82 @@ pub(crate) fn keep_passing(column: &Column, test: Test<'_>, from: usize, marks: 
         Cells::Texts(texts) => keep_texts(column, texts, test, from, marks),
         Cells::Binary(blobs) => keep_lent(column, blobs, test, from, marks),
         _ => keep_values(column, test, from, marks))
+}
+
+// Takes away the marks, from a place on, at which a number doesn't lie between two ends. Each is
+// looked at once for both.
+fn keep_within<T: Native, L: Comparison, U: Comparison>(
+    values: &[T],
+    there: &[bool],
+    low: T,
+    high: T,
+    from: usize,
+    marks: &mut [bool],
+)
+    requires long { length values.now ≡ length there.now }
+    requires within { from + length marks.old ≤ length there.now }
+    ensures { let cells = map (option_map T.scalar) (optionals values.now there.now) in
+        let test = is_between_at L.operator U.operator (T.scalar low) (T.scalar high) cells in
+        marks.new ≡ marked test from marks.old }
+{
+    for k in 0..marks.len() {
+        let is_above = is_so::<T, L>(values, there, from + k, low);
+        let is_below = is_so::<T, U>(values, there, from + k, high);
+        marks[k] = marks[k] & (is_above & is_below);
+    }
+}
+
+// Takes away the marks, from a place on, at which a column's value doesn't meet both ends, one
+// after the other.
+fn keep_apart(ends: Ends<'_>, from: usize, marks: &mut [bool])
+    requires { from + length marks.old < 2 ^ 64 }
+    ensures { marks.new ≡ marked (lies_at ends.entry) from marks.old }
+{
+    keep_passing(ends.column, Test::Is(ends.lower, ends.low), from, marks);
+    keep_passing(ends.column, Test::Is(ends.upper, ends.high), from, marks);
+}
+
+// Keeps the rows between the ends of a column whose values are truths or numbers of one type.
+fn keep_lying_natives<T: Native>(
+    ends: Ends<'_>,
+    natives: &Natives<T>,
+    from: usize,
+    marks: &mut [bool],
+)
+    requires room { from + length marks.old < 2 ^ 64 }
+    requires same { ends.column.now.values ≡ map (option_map T.scalar) natives.now }
+    ensures { marks.new ≡ marked (lies_at ends.entry) from marks.old }
+{
+    let (values, there) = natives.as_slices();
+    if from + marks.len() > there.len() {
+        return keep_apart(ends, from, marks);
+    }
+    let (Some(low), Some(high)) = (T::of_lent(ends.low), T::of_lent(ends.high)) else {
+        return keep_apart(ends, from, marks);
+    };
+    match (ends.lower, ends.upper) {
+        (Operator::Gt, Operator::Lt) => {
+            keep_within::<T, Above, Below>(values, there, low, high, from, marks);
+        }
+        (Operator::Gt, Operator::Lte) => {
+            keep_within::<T, Above, AtMost>(values, there, low, high, from, marks);
+        }
+        (Operator::Gte, Operator::Lt) => {
+            keep_within::<T, AtLeast, Below>(values, there, low, high, from, marks);
+        }
+        (Operator::Gte, Operator::Lte) => {
+            keep_within::<T, AtLeast, AtMost>(values, there, low, high, from, marks);
+        }
+        _ => keep_apart(ends, from, marks),
+    }
+}
+
+/// Takes away the marks, from a place on, at which a column's value doesn't lie between two ends.
+pub(crate) fn keep_lying(ends: Ends<'_>, from: usize, marks: &mut [bool])
+    requires { from + length marks.old < 2 ^ 64 }
+    ensures { marks.new ≡ marked (lies_at ends.entry) from marks.old }
+{
+    match_each_native!(ends.column.cells(),
+        natives => keep_lying_natives(ends, natives, from, marks),
+        _ => keep_apart(ends, from, marks))
 }

@@ -1,10 +1,10 @@
 //! Leaves of a predicate that ask something of the values of one column: a comparison with a
-//! literal on either side, two of these, LIKE with a literal pattern, IS NULL and IS NOT NULL.
+//! literal on either side, LIKE with a literal pattern, IS NULL and IS NOT NULL.
 ghost use Rattle.std.specs.Prelude.{◌≡◌, IfSome, option_map};
 ghost use Rattle.vortex_base.specs.Data.Cells.{value_of};
 ghost use Rattle.vortex_expr.specs.Meanings.Meaning as spec;
 ghost use Rattle.vortex_prune.specs.Scanning.Leaves.{IsColumnOf, IsComparison, IsLeaf, IsLike, IsValue};
-ghost use Rattle.vortex_prune.specs.Scanning.Leaves.{is_comparison, meets, passes, swapped};
+ghost use Rattle.vortex_prune.specs.Scanning.Leaves.{is_comparison, passes, swapped};
 
 use std::cmp::Ordering;
 use vortex_base::chunk::Chunk;
@@ -15,20 +15,11 @@ use vortex_expr::bound_expression::parts::Parts;
 use vortex_expr::like::LikeOptions;
 use vortex_expr::scalar_fn::Operator;
 
-/// A comparison with a value.
-#[derive(Clone, Copy)]
-pub(crate) struct End<'a> {
-    pub(crate) operator: Operator,
-    pub(crate) value: ValueRef<'a>,
-}
-
 /// A question that a leaf asks of a value.
 #[derive(Clone, Copy)]
 pub(crate) enum Test<'a> {
     /// Whether it compares so with another.
     Is(Operator, ValueRef<'a>),
-    /// Whether it meets both ends of a range.
-    Within(End<'a>, End<'a>),
     /// Whether it is a text that matches a pattern.
     Like(LikeOptions, &'a str),
     Null,
@@ -40,6 +31,16 @@ pub(crate) enum Test<'a> {
 pub(crate) struct Leaf<'a> {
     pub(crate) column: &'a Column,
     pub(crate) test: Test<'a>,
+}
+
+/// A column, and the ends between which its values are to lie.
+#[derive(Clone, Copy)]
+pub(crate) struct Ends<'a> {
+    pub(crate) column: &'a Column,
+    pub(crate) lower: Operator,
+    pub(crate) low: ValueRef<'a>,
+    pub(crate) upper: Operator,
+    pub(crate) high: ValueRef<'a>,
 }
 
 /// Whether an operator holds of two values in this order. AND and OR compare nothing.
@@ -58,17 +59,6 @@ pub(crate) fn holds(operator: Operator, order: Ordering) -> bool
     }
 }
 
-// Whether a value, if there is one, compares so with the one at an end.
-#[inline]
-fn meets(end: End<'_>, value: Option<ValueRef<'_>>) -> bool
-    ensures { result ≡ meets end.entry (option_map value_of value.entry) }
-{
-    match value {
-        None => false,
-        Some(value) => holds(end.operator, value.order(end.value)),
-    }
-}
-
 /// Whether a value, if there is one, passes.
 #[inline]
 pub(crate) fn passes(test: Test<'_>, value: Option<ValueRef<'_>>) -> bool
@@ -81,7 +71,6 @@ pub(crate) fn passes(test: Test<'_>, value: Option<ValueRef<'_>>) -> bool
             None => false,
             Some(value) => holds(operator, value.order(other)),
         },
-        Test::Within(first, second) => meets(first, value) && meets(second, value),
         Test::Like(options, pattern) => match value {
             Some(ValueRef::Utf8(text)) => options.matches(text.as_str(), pattern),
             _ => false,

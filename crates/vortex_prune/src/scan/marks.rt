@@ -11,11 +11,11 @@ ghost use Rattle.vortex_prune.specs.Scanning.Gaps.{AreAlike, IsGathered, are_tru
 ghost use Rattle.vortex_prune.specs.Scanning.Marks.{HasCounts, count_at, either_marked, is_told};
 ghost use Rattle.vortex_prune.specs.Scanning.Marks.{is_true_at, left_marked, marked};
 
-use crate::scan::columns::keep_passing;
+use crate::scan::columns::{keep_lying, keep_passing};
 use crate::scan::gaps::{Gap, asked, keep_passed, put_beside, put_gap, put_in_order};
 use crate::scan::leaf::{compared, leaf_of};
 use crate::scan::search::keep_ordered;
-use crate::scan::within::within_of;
+use crate::scan::within::within;
 use std::alloc::{AllocError, Global};
 use vortex_base::chunk::Chunk;
 use vortex_expr::bound_expression::BoundExpression;
@@ -25,6 +25,9 @@ use vortex_zone_map::zone_map::ZoneMap;
 
 /// How many rows are looked at together: their cells of a column fill some 16 KB.
 pub(crate) const BLOCK: usize = 1024;
+
+// From how many rows on it pays to look for two ends between which a column's values lie.
+const MANY: usize = 128;
 
 // How many zones are looked at together for each pair of a long proof.
 const ZONES_PER_PAIR: usize = 64;
@@ -94,8 +97,9 @@ fn keep_asked(table: Table<'_>, e: &BoundExpression, from: usize, marks: &mut [b
     }
 }
 
-// Keeps marks by the values of a column, if the expression is two comparisons of these. Returns
-// whether it is, and leaves the marks as they are if it isn't.
+// Keeps the marks of many rows by the values of a column, if the expression says that these lie
+// between two ends. Returns whether it does, and else leaves the marks as they are.
+#[inline]
 fn keep_within(table: Table<'_>, e: &BoundExpression, from: usize, marks: &mut [bool]) -> bool
     requires { from + length marks.old ≤ row_count table.chunk.now.columns }
     ensures kept { let test = is_true_at e.now table.entry.chunk.now.columns table.entry.counts in
@@ -103,9 +107,12 @@ fn keep_within(table: Table<'_>, e: &BoundExpression, from: usize, marks: &mut [
     ensures same { result ≡ false → marks.new ≡ marks.old }
 {
     let _rows = table.chunk.rows();
-    match within_of(table.chunk, e) {
-        Some(leaf) => {
-            keep_passing(leaf.column, leaf.test, from, marks);
+    if marks.len() < MANY {
+        return false;
+    }
+    match within(table.chunk, e) {
+        Some(ends) => {
+            keep_lying(ends, from, marks);
             true
         }
         None => false,

@@ -1,95 +1,83 @@
-//! Leaves that two comparisons of one column with literals are, under a BETWEEN or an AND.
+//! Expressions that say that a column's value lies between two literals, by BETWEEN or by AND.
 ghost use Rattle.std.specs.Prelude.{◌≡◌, IfSome};
-ghost use Rattle.vortex_expr.specs.Trees.Tree.{between};
+ghost use Rattle.vortex_expr.specs.Trees.Tree.{between, binary};
+ghost use Rattle.vortex_expr.specs.declared.scalar_fn.Operator.TheVariants.{And};
 ghost use Rattle.vortex_prune.specs.Scanning.Gaps.{AreSides};
-ghost use Rattle.vortex_prune.specs.Scanning.Leaves.{AreBoth, IsColumnOf, IsLeaf, IsPair};
+ghost use Rattle.vortex_prune.specs.Scanning.Leaves.{IsBetween, IsColumnOf};
 
-use crate::scan::leaf::{End, Leaf, Test};
+use crate::scan::leaf::Ends;
 use crate::scan::sides::{Side, beside, is_falling, is_rising, side_of};
 use vortex_base::chunk::Chunk;
 use vortex_expr::bound_expression::BoundExpression;
 use vortex_expr::bound_expression::parts::Parts;
 use vortex_expr::scalar_fn::{BetweenOptions, Operator};
 
-// The test that is passed where two ends are met, the lower one first.
-fn within<'a>(first: End<'a>, second: End<'a>) -> Test<'a>
-    ensures { IsPair first.entry second.entry result }
+// The ends that two sides are, the lower one first, if they compare one column.
+fn ends_of<'a>(chunk: &'a Chunk, low: Side<'a>, high: Side<'a>) -> Option<Ends<'a>>
+    requires { IsColumnOf chunk.now.columns low.operand.now low.column.now }
+    ensures { IfSome result (AreSides chunk.entry.now.columns low.entry high.entry) }
 {
-    if is_falling(first.operator) && is_rising(second.operator) {
-        Test::Within(second, first)
-    } else {
-        Test::Within(first, second)
+    if !is_rising(low.operator) || !is_falling(high.operator) {
+        return None;
     }
-}
-
-// The end that a side compares with.
-fn end_of(side: Side<'_>) -> End<'_>
-    ensures { result ≡ record { operator = side.entry.operator; value = side.entry.value } }
-{
-    End {
-        operator: side.operator,
-        value: side.value,
-    }
-}
-
-// The leaf of two sides, if they compare one column.
-fn joined<'a>(chunk: &'a Chunk, first: Side<'a>, second: Side<'a>) -> Option<Leaf<'a>>
-    requires { IsColumnOf chunk.now.columns first.operand.now first.column.now }
-    ensures { IfSome result (λ leaf. AreSides chunk.entry.now.columns first.entry second.entry
-        leaf.column.now leaf.test) }
-{
-    let is_one = *first.operand == *second.operand;
+    let is_one = *low.operand == *high.operand;
     if !is_one {
         return None;
     }
-    let test = within(end_of(first), end_of(second));
-    Some(Leaf {
-        column: first.column,
-        test,
+    Some(Ends {
+        column: low.column,
+        lower: low.operator,
+        low: low.value,
+        upper: high.operator,
+        high: high.value,
     })
 }
 
-// The leaf that tells of an AND of two expressions, if both compare one column with a literal.
-fn both_of<'a>(
+// The ends that an AND of two expressions says, in either order.
+fn both_ends<'a>(
     chunk: &'a Chunk,
+    e: &'a BoundExpression,
     left: &'a BoundExpression,
     right: &'a BoundExpression,
-) -> Option<Leaf<'a>>
-    ensures { IfSome result (λ leaf. AreBoth chunk.entry.now.columns left.entry.now
-        right.entry.now leaf.column.now leaf.test) }
+) -> Option<Ends<'a>>
+    requires { e.now ≡ binary And left.now right.now }
+    ensures { IfSome result (IsBetween chunk.entry.now.columns e.entry.now) }
 {
-    let left = side_of(chunk, left)?;
-    let right = side_of(chunk, right)?;
-    joined(chunk, left, right)
+    let first = side_of(chunk, left)?;
+    let second = side_of(chunk, right)?;
+    if is_rising(first.operator) {
+        ends_of(chunk, first, second)
+    } else {
+        ends_of(chunk, second, first)
+    }
 }
 
-// The leaf that tells of a BETWEEN, if both its ends are literals and its operand a column.
-fn between_of<'a>(
+// The ends of a BETWEEN.
+fn between_ends<'a>(
     chunk: &'a Chunk,
     e: &'a BoundExpression,
     options: BetweenOptions,
     x: &'a BoundExpression,
     lower: &'a BoundExpression,
     upper: &'a BoundExpression,
-) -> Option<Leaf<'a>>
+) -> Option<Ends<'a>>
     requires { e.now ≡ between options x.now lower.now upper.now }
-    ensures { IfSome result (λ leaf. IsLeaf chunk.entry.now.columns e.entry.now
-        leaf.column.now leaf.test) }
+    ensures { IfSome result (IsBetween chunk.entry.now.columns e.entry.now) }
 {
     let low = beside(chunk, options.lower_strict.to_operator(), lower, x)?;
     let high = beside(chunk, options.upper_strict.to_operator(), x, upper)?;
-    joined(chunk, low, high)
+    ends_of(chunk, low, high)
 }
 
-/// The leaf of two comparisons of one column with literals that an expression is, if it is one.
-pub(crate) fn within_of<'a>(chunk: &'a Chunk, e: &'a BoundExpression) -> Option<Leaf<'a>>
-    ensures { IfSome result (λ leaf.
-        IsLeaf chunk.entry.now.columns e.entry.now leaf.column.now leaf.test) }
+/// The ends between which an expression says that a column's value lies, if it says that.
+#[inline(never)]
+pub(crate) fn within<'a>(chunk: &'a Chunk, e: &'a BoundExpression) -> Option<Ends<'a>>
+    ensures { IfSome result (IsBetween chunk.entry.now.columns e.entry.now) }
 {
     match e.parts() {
-        Parts::Binary(Operator::And, left, right) => both_of(chunk, left, right),
+        Parts::Binary(Operator::And, left, right) => both_ends(chunk, e, left, right),
         Parts::Between(options, x, lower, upper) => {
-            between_of(chunk, e, options, x, lower, upper)
+            between_ends(chunk, e, options, x, lower, upper)
         }
         _ => None,
     }

@@ -1,14 +1,23 @@
-use Rattle.std.proofs.Common.{ap, map, ◌∙◌}
-use Rattle.std.specs.Prelude.{option_map}
+use Rattle.std.proofs.Common.{◌+◌, ap, get_or, map, ◌∙◌, false}
+use Rattle.std.specs.Prelude.{◌&&◌, option_map}
 use Rattle.vortex_base.specs.Data.Natives.{optionals}
-use Rattle.vortex_prune.proofs.ZoneMaps.ZoneMarks.{marked-marked}
-use Rattle.vortex_prune.specs.Scanning.Leaves.{compares_at}
-use Rattle.vortex_prune.specs.Scanning.Marks.{marked}
+use Rattle.vortex_prune.specs.Scanning.Leaves.{compares_at, is_between_at}
+use Rattle.vortex_prune.proofs.ZoneMaps.ZoneMarks.{marked_all, marked_more}
 use Rattle.vortex_prune.proofs.scan.columns.keep_within.Goals as goal
 
-pub returns-in_default : goal.returns-in_default
-returns-in_default g c =
+pub loop-k-preserved : goal.loop-k-preserved
+loop-k-preserved g c =
     let cells = map (option_map g.T.Native.scalar) (optionals c.args.values.now c.args.there.now) in
-    let low = compares_at c.args.lower (g.T.Native.scalar c.args.low) cells in
-    let high = compares_at c.args.upper (g.T.Native.scalar c.args.high) cells in
-    c.keep_natives-in_default.ensures ∙ ap (marked high c.args.from) c.keep_natives.ensures ∙ marked-marked low high c.args.from c.args.marks.now
+    let o = g.L.Comparison.operator in
+    let p = g.U.Comparison.operator in
+    let v = g.T.Native.scalar c.args.low in
+    let w = g.T.Native.scalar c.args.high in
+    let mark = get_or c.loop-k.marks c.loop-k.k false in
+    marked_more (is_between_at o p v w cells) c.args.from c.loop-k.k c.args.marks.now c.loop-k.marks _ c.loop-k.invariant c.loop-k-test.true
+    (ap (λ b. mark && (b && c.is_so-is_below.result)) c.is_so-is_above.ensures ∙ ap (λ b. mark && (compares_at o v cells (c.args.from + c.loop-k.k) && b)) c.is_so-is_below.ensures)
+
+pub returns : goal.returns
+returns g c =
+    let cells = map (option_map g.T.Native.scalar) (optionals c.args.values.now c.args.there.now) in
+    c.loop-k.invariant
+    ∙ marked_all (is_between_at g.L.Comparison.operator g.U.Comparison.operator (g.T.Native.scalar c.args.low) (g.T.Native.scalar c.args.high) cells) c.args.from c.loop-k.k c.args.marks.now c.loop-k-test.false
