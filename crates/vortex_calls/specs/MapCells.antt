@@ -12,7 +12,8 @@ use Rattle.vortex_base.specs.Data.Columns.{ColumnData}
 use Rattle.vortex_base.specs.Data.Scopes.{Named}
 use Rattle.vortex_zone_map.specs.StatValues.{read_stat, told_value}
 use Rattle.vortex_zone_map.specs.Zone.{ZoneData, zones_fit}
-use Rattle.vortex_zone_map.specs.ZoneMaps.{Head}
+use Rattle.vortex_zone_map.specs.Tables.{slot}
+use Rattle.vortex_zone_map.specs.ZoneMaps.{Head, heads as all_heads}
 use Rattle.vortex_stats.specs.Sets.Entries.{value_fits}
 use Rattle.vortex_stats.specs.Stat.{stat_dtype, stat_eq}
 use Rattle.vortex_stats.specs.declared.precision.Precision.{Precision}
@@ -20,6 +21,7 @@ use Rattle.vortex_stats.specs.declared.precision.Precision.TheVariants.{Absent, 
 use Rattle.vortex_stats.specs.declared.stat.Stat.{Stat}
 use Rattle.vortex_calls.specs.declared.fault.Refusal.{Refusal}
 use Rattle.vortex_calls.specs.declared.batches.Batch.{Batch}
+use Rattle.vortex_calls.specs.declared.batches.Lookups.{Lookups}
 use Rattle.vortex_calls.specs.declared.status.Status.{Status}
 use Rattle.vortex_calls.specs.declared.table.Source.{Source}
 use Rattle.vortex_calls.specs.Refusals.{all_found, all_read}
@@ -108,6 +110,29 @@ pub record AreCells (b : Batch) (h : Head) (cells : List (Option ScalarValue)) :
   pub stat : Stat
   pub reads : read_stat h.aggregate ≡ Some stat
   pub told : told_cells h.aggregate (last_of h.source stat b.sources.now (length b.sources.now)) b.rows.now b.from b.count ≡ Ok cells
+
+-- ---- where the statistics stand that count
+
+-- for each statistic of each column that has a place, where the last of the first n that is this one stands, or past all
+pub record AreLasts (xs : List Source) (n : ℕ) (lasts : List ℕ) : Type 0 where
+  pub last : (i : ℕ) (s : Stat) (k : ℕ) → slice_get lasts (slot i s) ≡ Some k → slice_get xs k ≡ last_of i s xs n
+
+-- there stands the statistic that counts for a head, or none does
+pub record IsCounting (xs : List Source) (h : Head) (k : ℕ) : Type 0 where
+  pub stat : Stat
+  pub reads : read_stat h.aggregate ≡ Some stat
+  pub last : slice_get xs k ≡ last_of h.source stat xs (length xs)
+
+-- for each of the heads
+abbrev pub AreCounting : List Source → List Head → List ℕ → Type 0
+AreCounting xs hs entries = (j : ℕ) (h : Head) (k : ℕ) → slice_get hs j ≡ Some h → slice_get entries j ≡ Some k → IsCounting xs h k
+
+-- what is looked up for the heads of a scope
+pub record AreLookups (scope : List Named) (xs : List Source) (l : Lookups) : Type 0 where
+  pub heads : l.heads.items ≡ all_heads scope
+  pub named : length l.named.items ≡ length l.heads.items
+  pub long : length l.entries.items ≡ length l.heads.items
+  pub counting : AreCounting xs l.heads.items l.entries.items
 
 -- ---- statistics whose values are numbers
 

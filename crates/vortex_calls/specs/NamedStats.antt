@@ -1,6 +1,7 @@
 -- The aggregates that proofs name.
-use Rattle.std.specs.Prelude.{◌≡◌, ℕ, ◌==◌, ◌&&◌, ◌||◌, Bool, true, false, List, Option, None, Some, IsTrue, length, map, slice_get}
+use Rattle.std.specs.Prelude.{◌≡◌, ℕ, ◌+◌, ◌*◌, ◌==◌, ◌&&◌, ◌||◌, Bool, true, false, List, Option, None, Some, IsTrue, length, map, slice_get}
 use Rattle.vortex_base.specs.declared.aggregate.AggregateFnRef.{AggregateFnRef}
+use Rattle.vortex_base.specs.declared.aggregate.AggregateFnRef.TheVariants as aggregate
 use Rattle.vortex_base.specs.Data.Columns.{ColumnData}
 use Rattle.vortex_expr.specs.Trees.Tree.{Place, Tree, between, binary, column, is_not_null, is_null, like, literal, not, row_count, stat}
 use Rattle.vortex_expr.specs.Trees.TreeEq.{aggregate_eq}
@@ -39,6 +40,28 @@ either_names f t i g = names_if f i g || names_if t i g
 -- what stands below a head
 abbrev pub names_head : (falsifier satisfier : Option (Tree Place)) → Head → Bool
 names_head f t h = either_names f t h.source h.aggregate
+
+-- ---- marks of what they name
+
+-- the number of an aggregate
+abbrev pub code : AggregateFnRef → ℕ
+code aggregate.Max = 0
+code aggregate.Min = 1
+code aggregate.Sum = 2
+code aggregate.NullCount = 3
+code aggregate.NanCount = 4
+code aggregate.UncompressedSizeInBytes = 5
+code aggregate.AllNull = 6
+code aggregate.AllNonNull = 7
+code aggregate.MinMax = 8
+
+-- the place of an aggregate of a column among those of all columns
+abbrev pub mark_place : ℕ → AggregateFnRef → ℕ
+mark_place i g = i * 9 + code g
+
+-- each aggregate of a column that has a place is marked if it is asked for
+pub record AreMarks (asked : ℕ → AggregateFnRef → Bool) (marks : List Bool) : Type 0 where
+  pub told : (i : ℕ) (g : AggregateFnRef) (b : Bool) → slice_get marks (mark_place i g) ≡ Some b → b ≡ asked i g
 
 -- ---- a table that has what they name
 

@@ -12,9 +12,9 @@ ghost use Rattle.vortex_calls.specs.Refusals.{Answers};
 ghost use Rattle.vortex_calls.specs.Tables.{IsTypedBy, zones_given};
 ghost use Rattle.vortex_calls.specs.declared.status.Status.TheVariants.{NoMemory};
 ghost use Rattle.vortex_zone_map.specs.Zone.{ZoneData, zones_fit};
-ghost use Rattle.vortex_zone_map.specs.ZoneMaps.{TellsOf, heads as all_heads, zone_column};
+ghost use Rattle.vortex_zone_map.specs.ZoneMaps.{TellsOf, zone_column};
 
-use crate::cells::{all_read, last_of, null_cells, told_cells};
+use crate::cells::{all_read, head_entries, null_cells, told_cells};
 use crate::fault::Refusal;
 use crate::first_fault::check_values;
 use crate::named::{map_answers, named_heads};
@@ -27,10 +27,19 @@ use vortex_base::scope::Scope;
 use vortex_expr::bound_expression::BoundExpression;
 use vortex_predicates::PruningPredicate;
 use vortex_prune::block_size;
-use vortex_zone_map::{Head, StatFn, ZoneMap};
+use vortex_zone_map::{Head, ZoneMap};
 
 // How many cells are made at once of statistics. Each takes up to 9 bytes, and a text its own more.
 const BATCH_CELLS: usize = 32768;
+
+// What a call looks up once for each head of its scope: whether the proofs name it, and where the
+// statistic stands that counts for it. Where none is, it is the number of statistics.
+#[derive(Drop)]
+struct Lookups {
+    heads: Vec<Head>,
+    named: Vec<bool>,
+    entries: Vec<usize>,
+}
 
 // Some zones of a table, one behind the other.
 #[derive(Clone, Copy)]
@@ -43,17 +52,17 @@ struct Batch<'a> {
 }
 
 impl Batch<'_> {
-    // The cells below a head.
-    fn cells(&self, alloc: Global, head: &Head) -> Option<Cells>
-        requires { self.now.from + self.now.count ≤ length self.now.rows.now }
+    // The cells below a head, by the statistic that stands at an entry, if one does.
+    fn cells(&self, alloc: Global, head: &Head, entry: usize) -> Option<Cells>
+        requires within { self.now.from + self.now.count ≤ length self.now.rows.now }
+        requires counting { spec.IsCounting self.now.sources.now head.now entry }
         ensures { IfSome result (λ cells. spec.AreCells self.now head.now (cell_values cells)) }
     {
-        let stat = StatFn::reads(head.aggregate())?;
-        match last_of(self.sources, head.source(), stat) {
+        match self.sources.get(entry) {
             None => Some(null_cells(alloc, self.count)),
             Some(source) => told_cells(
                 alloc,
-                &source,
+                source,
                 head.aggregate(),
                 self.rows,
                 self.from,
@@ -62,14 +71,15 @@ impl Batch<'_> {
         }
     }
 
-    // The column below a head.
-    fn column(&self, alloc: Global, head: &Head) -> Option<Column>
+    // The column below a head, by the statistic that stands at an entry, if one does.
+    fn column(&self, alloc: Global, head: &Head, entry: usize) -> Option<Column>
         requires batch { spec.IsBatch self.now }
         requires tells { TellsOf self.now.scope.now head.now }
+        requires counting { spec.IsCounting self.now.sources.now head.now entry }
         ensures { IfSome result (λ column. (zones : List ZoneData)
             → spec.batch_zones self.now ≡ Ok zones → column ≡ zone_column zones head.now) }
     {
-        let cells = self.cells(alloc, head)?;
+        let cells = self.cells(alloc, head, entry)?;
         Some(Column::new_unchecked(head.dtype(), cells, 0))
     }
 
@@ -82,32 +92,33 @@ impl Batch<'_> {
     }
 
     // The column below a head if that is named, or else nulls.
-    fn column_if(&self, alloc: Global, head: &Head, is_named: bool) -> Option<Column>
+    fn column_if(&self, alloc: Global, head: &Head, is_named: bool, entry: usize) -> Option<Column>
         requires batch { spec.IsBatch self.now }
         requires tells { TellsOf self.now.scope.now head.now }
+        requires counting { spec.IsCounting self.now.sources.now head.now entry }
         ensures { IfSome result (λ column. (zones : List ZoneData)
             → spec.batch_zones self.now ≡ Ok zones → is_named ≡ true
             → column ≡ zone_column zones head.now) }
     {
         if is_named {
-            self.column(alloc, head)
+            self.column(alloc, head, entry)
         } else {
             Some(self.null_column(alloc, head))
         }
     }
 
     // The columns below all heads of the scope.
-    fn columns(&self, alloc: Global, heads: &[Head], named: &[bool]) -> Option<Vec<Column>>
+    fn columns(&self, alloc: Global, lookups: &Lookups) -> Option<Vec<Column>>
         requires batch { spec.IsBatch self.now }
-        requires heads { heads.now ≡ all_heads self.now.scope.now }
-        requires named { length named.now ≡ length heads.now }
+        requires lookups { spec.AreLookups self.now.scope.now self.now.sources.now lookups.now }
         ensures { IfSome result (λ columns. (zones : List ZoneData)
             → spec.batch_zones self.now ≡ Ok zones
-            → AreNamed named.now heads.now zones columns.items) }
+            → AreNamed lookups.now.named.items lookups.now.heads.items zones columns.items) }
     {
+        let (heads, named, entries) = (&lookups.heads, &lookups.named, &lookups.entries);
         let mut columns = Vec::with_capacity(alloc, heads.len()).ok()?;
         for place in 0..heads.len() {
-            let column = self.column_if(alloc, &heads[place], named[place])?;
+            let column = self.column_if(alloc, &heads[place], named[place], entries[place])?;
             columns.push(column).ok()?;
         }
         Some(columns)
@@ -128,19 +139,18 @@ impl Batch<'_> {
     }
 
     // The map of the zones, with what is named.
-    fn map(&self, alloc: Global, heads: &[Head], named: &[bool]) -> Option<ZoneMap>
+    fn map(&self, alloc: Global, lookups: &Lookups) -> Option<ZoneMap>
         requires batch { spec.IsBatch self.now }
-        requires heads { heads.now ≡ all_heads self.now.scope.now }
-        requires named { length named.now ≡ length heads.now }
+        requires lookups { spec.AreLookups self.now.scope.now self.now.sources.now lookups.now }
         ensures scoped { IfSome result (λ made. made.scope ≡ self.now.scope.now) }
         ensures has { IfSome result (λ made. (zones : List ZoneData)
-            → spec.batch_zones self.now ≡ Ok zones → HasNamed named.now zones made) }
+            → spec.batch_zones self.now ≡ Ok zones → HasNamed lookups.now.named.items zones made) }
     {
         let Ok(scope) = self.scope.try_clone() else {
             return None;
         };
         let rows = self.row_counts(alloc)?;
-        let columns = self.columns(alloc, heads, named)?;
+        let columns = self.columns(alloc, lookups)?;
         match ZoneMap::of_table(alloc, scope, rows, columns) {
             Ok(made) => Some(made),
             Err(_) => None,
@@ -151,21 +161,20 @@ impl Batch<'_> {
     fn answers(
         &self,
         alloc: Global,
-        heads: &[Head],
-        named: &[bool],
+        lookups: &Lookups,
         proofs: &PruningPredicate,
     ) -> Option<Vec<u8>>
         requires batch { spec.IsBatch self.now }
-        requires heads { heads.now ≡ all_heads self.now.scope.now }
-        requires named { named.now
-            ≡ map (names_head proofs.now.falsifier proofs.now.satisfier) heads.now }
+        requires lookups { spec.AreLookups self.now.scope.now self.now.sources.now lookups.now }
+        requires named { lookups.now.named.items
+            ≡ map (names_head proofs.now.falsifier proofs.now.satisfier) lookups.now.heads.items }
         requires closed { AreClosed proofs.now.falsifier proofs.now.satisfier }
         ensures { IfSome result (λ answers. (zones : List ZoneData)
             → spec.batch_zones self.now ≡ Ok zones
             → answers.items ≡ zone_answers proofs.now.falsifier proofs.now.satisfier
             self.now.scope.now zones) }
     {
-        let map = self.map(alloc, heads, named)?;
+        let map = self.map(alloc, lookups)?;
         match map_answers(alloc, proofs, &map) {
             Ok(answers) => Some(answers),
             Err(_) => None,
@@ -196,18 +205,41 @@ fn zones_of(proof: Option<&BoundExpression>) -> usize {
     }
 }
 
-// How many zones a map has: as many as fill a batch with cells, or more under long proofs, which
-// are bound anew for each map.
+// How many zones a map has: as many as fill a batch with cells, or more under many heads, below each
+// of which each map has a column, or under long proofs, which are bound anew for each map.
 fn batch_size(named: &[bool], proofs: &PruningPredicate) -> usize
     ensures { 0 < result }
 {
-    let by_cells = 1 + BATCH_CELLS / count_named(named).max(1);
+    let by_cells = 1 + BATCH_CELLS.max(named.len()) / count_named(named).max(1);
     let by_proofs = zones_of(proofs.falsifier()).max(zones_of(proofs.satisfier()));
     if by_cells < by_proofs {
         by_proofs
     } else {
         by_cells
     }
+}
+
+// What is looked up for the heads of a scope.
+fn lookups_of(
+    alloc: Global,
+    scope: &Scope,
+    proofs: &PruningPredicate,
+    sources: &[Source<'_>],
+) -> Option<Lookups>
+    ensures lookups { IfSome result (spec.AreLookups scope.now sources.now) }
+    ensures named { IfSome result (λ lookups. lookups.named.items
+        ≡ map (names_head proofs.now.falsifier proofs.now.satisfier) lookups.heads.items) }
+{
+    let Ok(heads) = ZoneMap::heads(alloc, scope) else {
+        return None;
+    };
+    let named = named_heads(alloc, proofs, scope, &heads)?;
+    let entries = head_entries(alloc, scope, sources, &heads)?;
+    Some(Lookups {
+        heads,
+        named,
+        entries,
+    })
 }
 
 // The answers for all zones, batch by batch.
@@ -225,11 +257,8 @@ fn batches_answers<'a>(
         → zones_given scope.now sources.now rows.now ≡ Ok zones
         → v.items ≡ zone_answers proofs.now.falsifier proofs.now.satisfier scope.now zones) }
 {
-    let Ok(heads) = ZoneMap::heads(alloc, scope) else {
-        return None;
-    };
-    let named = named_heads(alloc, proofs, &heads)?;
-    let size = batch_size(&named, proofs);
+    let lookups = lookups_of(alloc, scope, proofs, sources)?;
+    let size = batch_size(&lookups.named, proofs);
     let mut answers = Vec::with_capacity(alloc, rows.len()).ok()?;
     'batches: while answers.len() < rows.len() {
         let from = answers.len();
@@ -241,7 +270,7 @@ fn batches_answers<'a>(
             from,
             count,
         };
-        let mut more = batch.answers(alloc, &heads, &named, proofs)?;
+        let mut more = batch.answers(alloc, &lookups, proofs)?;
         match answers.append(&mut more) {
             Ok(()) => {}
             Err(_) => return None,

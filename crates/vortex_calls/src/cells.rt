@@ -1,9 +1,13 @@
 //! The cells of a map's table, read straight from a caller's arrays.
-ghost use Rattle.std.specs.Prelude.{◌≡◌, ◌+◌, ◌<◌, ◌≤◌, ℕ, IfSome, List, None, Ok, Some, length};
+ghost use Rattle.std.specs.Prelude.{◌≡◌, ◌+◌, ◌*◌, ◌<◌, ◌≤◌, ◌^◌, ℕ, IfSome, List, None, Ok, Some};
+ghost use Rattle.std.specs.Prelude.{length};
 ghost use Rattle.vortex_base.specs.declared.aggregate.AggregateFnRef.{AggregateFnRef};
 ghost use Rattle.std.specs.Bool.{OnTrue};
 ghost use Rattle.vortex_base.specs.Data.Cells.{cell_values};
 ghost use Rattle.vortex_calls.specs.MapCells as spec;
+ghost use Rattle.vortex_calls.specs.declared.table.Source.{Source as SourceData};
+ghost use Rattle.vortex_zone_map.specs.Tables.{slot};
+ghost use Rattle.vortex_zone_map.specs.ZoneMaps.{heads as all_heads};
 
 use crate::numbers::{numbers_are_read, told_numbers};
 use crate::table::{Source, source_there};
@@ -13,28 +17,64 @@ use vortex_base::cells::Cells;
 use vortex_base::dtype::DType;
 use vortex_base::nulls::Nulls;
 use vortex_base::scalar_value::ScalarValue;
+use vortex_base::scope::Scope;
 use vortex_stats::stat::Stat;
-use vortex_zone_map::StatFn;
+use vortex_zone_map::{Head, StatFn};
 
-// Whether a statistic is this one of the column at a place.
-fn is_of(source: &Source<'_>, column: usize, stat: Stat) -> bool
-    ensures { result ≡ spec.is_of column stat source.now }
+// Where a statistic of a column stands among those of all columns.
+fn stat_place(column: usize, stat: Stat) -> usize
+    requires { slot column stat < 2 ^ 64 }
+    ensures { result ≡ slot column stat }
 {
-    source.statistic.column == column && source.stat.number() == stat.number()
+    column * 9 + usize::from(stat.number())
 }
 
-/// The statistic that counts for the column at a place: the last that is this one, if one is.
-pub(crate) fn last_of<'a>(sources: &[Source<'a>], column: usize, stat: Stat) -> Option<Source<'a>>
-    ensures { result ≡ spec.last_of column stat sources.now (length sources.now) }
+// For each statistic of each column where the last that is this one stands. Where none is, it is
+// the number of statistics.
+fn last_entries(alloc: Global, columns: usize, sources: &[Source<'_>]) -> Option<Vec<usize>>
+    ensures wide { IfSome result (λ lasts. length lasts.items ≡ columns * 9) }
+    ensures last { IfSome result (λ lasts.
+        spec.AreLasts sources.now (length sources.now) lasts.items) }
 {
-    let mut last = None;
+    let mut lasts = vec![in alloc; sources.len(); columns.checked_mul(9)?].ok()?;
     for entry in 0..sources.len() {
-        let source = sources[entry];
-        if is_of(&source, column, stat) {
-            last = Some(source);
+        let source = source_there(sources, entry);
+        if source.statistic.column < columns {
+            lasts[stat_place(source.statistic.column, source.stat)] = entry;
         }
     }
-    last
+    Some(lasts)
+}
+
+// Where the statistic stands that counts for a head, if it reads one.
+fn head_entry(lasts: &[usize], head: &Head) -> Option<usize>
+    requires { head.now.source * 9 + 8 < length lasts.now }
+    ensures { (sources : List SourceData) → spec.AreLasts sources (length sources) lasts.now
+        → IfSome result (spec.IsCounting sources head.now) }
+{
+    let stat = StatFn::reads(head.aggregate())?;
+    Some(lasts[stat_place(head.source(), stat)])
+}
+
+/// For each head of a scope where the statistic stands that counts: the last that is the one that
+/// it reads. Where none is, it is the number of statistics.
+pub(crate) fn head_entries(
+    alloc: Global,
+    scope: &Scope,
+    sources: &[Source<'_>],
+    heads: &[Head],
+) -> Option<Vec<usize>>
+    requires { heads.now ≡ all_heads scope.now }
+    ensures long { IfSome result (λ entries. length entries.items ≡ length heads.now) }
+    ensures counting { IfSome result (λ entries.
+        spec.AreCounting sources.now heads.now entries.items) }
+{
+    let lasts = last_entries(alloc, scope.len(), sources)?;
+    let mut entries = Vec::with_capacity(alloc, heads.len()).ok()?;
+    for place in 0..heads.len() {
+        entries.push(head_entry(&lasts, &heads[place])?).ok()?;
+    }
+    Some(entries)
 }
 
 // Whether a value of any kind is there for each of the first zones of which a statistic says

@@ -1,12 +1,14 @@
 //! The proofs of a predicate, the aggregates that they name, and what they answer for zones.
-ghost use Rattle.std.specs.Prelude.{◌≡◌, IfErr, IfOk, IfSome, IsTrue, List, [], Some, map, option_copied};
+ghost use Rattle.std.specs.Prelude.{◌≡◌, ◌*◌, ◌<◌, ◌^◌, ◌||◌, ℕ, Bool, IfErr, IfOk, IfSome, IsTrue, List, []};
+ghost use Rattle.std.specs.Prelude.{Some, length, map, option_copied};
+ghost use Rattle.vortex_base.specs.declared.aggregate.AggregateFnRef.{AggregateFnRef};
 ghost use Rattle.vortex_calls.specs.NamedStats as spec;
 ghost use Rattle.vortex_calls.specs.Prunes.{AreClosed, AreRowAnswers, zone_answers};
 ghost use Rattle.vortex_calls.specs.Scopes.{max_depth};
 ghost use Rattle.vortex_expr.specs.Trees.Tree.{is_plain};
 ghost use Rattle.vortex_predicates.specs.Pruning.{IsMadeBy, IsRight};
 ghost use Rattle.vortex_zone_map.specs.Zone.{ZoneData};
-ghost use Rattle.vortex_zone_map.specs.ZoneMaps.{IsMapOf};
+ghost use Rattle.vortex_zone_map.specs.ZoneMaps.{IsMapOf, heads as all_heads};
 ghost use Rattle.vortex_rewrite.specs.Answers.{IsMemory};
 ghost use Rattle.vortex_rewrite.specs.Rewriting.Predicates.{is_predicate};
 
@@ -14,6 +16,7 @@ use crate::answers::answers_of;
 use crate::predicate::MAX_DEPTH;
 use std::alloc::{AllocError, Global};
 use vortex_base::aggregate::AggregateFnRef;
+use vortex_base::scope::Scope;
 use vortex_expr::bound_expression::BoundExpression;
 use vortex_expr::bound_expression::parts::Parts;
 use vortex_predicates::PruningPredicate;
@@ -21,55 +24,6 @@ use vortex_prune::Rules;
 use vortex_prune::scan::prune::prune_by;
 use vortex_stats::StatsError;
 use vortex_zone_map::{Head, ZoneMap};
-
-// Whether an aggregate of an input is this one of the column at a place.
-fn asks(
-    aggregate: AggregateFnRef,
-    input: &BoundExpression,
-    column: usize,
-    wanted: AggregateFnRef,
-) -> bool
-    ensures { result ≡ spec.asks aggregate input.now column wanted }
-{
-    match input.parts() {
-        Parts::Column(place, _) => place == column && aggregate == wanted,
-        _ => false,
-    }
-}
-
-// Whether a placeholder of an expression asks for it.
-fn names(e: &BoundExpression, column: usize, wanted: AggregateFnRef) -> bool
-    ensures { result ≡ spec.names e.now column wanted }
-{
-    match e.parts() {
-        Parts::Column(_, _) => false,
-        Parts::Literal(_) => false,
-        Parts::Binary(_, left, right) => {
-            names(left, column, wanted) || names(right, column, wanted)
-        }
-        Parts::Between(_, x, lower, upper) => {
-            names(x, column, wanted) || names(lower, column, wanted) || names(upper, column, wanted)
-        }
-        Parts::IsNull(x) => names(x, column, wanted),
-        Parts::IsNotNull(x) => names(x, column, wanted),
-        Parts::Not(x) => names(x, column, wanted),
-        Parts::Like(_, text, pattern) => {
-            names(text, column, wanted) || names(pattern, column, wanted)
-        }
-        Parts::Stat(aggregate, input) => asks(aggregate, input, column, wanted),
-        Parts::RowCount => false,
-    }
-}
-
-// Whether a proof, if there is one, asks for it.
-fn names_if(proof: Option<&BoundExpression>, column: usize, wanted: AggregateFnRef) -> bool
-    ensures { result ≡ spec.names_if (option_copied proof.entry) column wanted }
-{
-    match proof {
-        None => false,
-        Some(proof) => names(proof, column, wanted),
-    }
-}
 
 /// The proofs of a predicate by built-in rules, those of its forms left out that are deeper than a
 /// call's stack bears.
@@ -112,27 +66,102 @@ pub(crate) fn map_answers(
     Ok(answers_of(alloc, &verdicts)?)
 }
 
-// Whether one of the proofs asks for what stands below a head.
-fn is_named(proofs: &PruningPredicate, head: &Head) -> bool
-    ensures { result ≡ spec.names_head proofs.now.falsifier proofs.now.satisfier head.now }
+// Where the mark of an aggregate of a column stands among those of all columns.
+fn mark_place(column: usize, aggregate: AggregateFnRef) -> usize
+    requires { spec.mark_place column aggregate < 2 ^ 64 }
+    ensures { result ≡ spec.mark_place column aggregate }
 {
-    let (column, aggregate) = (head.source(), head.aggregate());
-    names_if(proofs.falsifier(), column, aggregate)
-        || names_if(proofs.satisfier(), column, aggregate)
+    column * 9 + aggregate as usize
 }
 
-/// Whether the proofs ask for what stands below each head.
+// Marks an aggregate of an input, if that is a column.
+fn mark_input(
+    marks: &mut [bool],
+    columns: usize,
+    aggregate: AggregateFnRef,
+    input: &BoundExpression,
+)
+    requires { length marks.old ≡ columns * 9 }
+    ensures { (asked : ℕ → AggregateFnRef → Bool) → spec.AreMarks asked marks.old
+        → spec.AreMarks (λ i g. asked i g || spec.asks aggregate input.now i g) marks.new }
+{
+    if let Parts::Column(place, _) = input.parts() {
+        if place < columns {
+            marks[mark_place(place, aggregate)] = true;
+        }
+    }
+}
+
+// Marks what the placeholders of an expression ask for.
+fn mark(marks: &mut [bool], columns: usize, e: &BoundExpression)
+    requires { length marks.old ≡ columns * 9 }
+    ensures { (asked : ℕ → AggregateFnRef → Bool) → spec.AreMarks asked marks.old
+        → spec.AreMarks (λ i g. asked i g || spec.names e.now i g) marks.new }
+{
+    match e.parts() {
+        Parts::Column(_, _) | Parts::Literal(_) | Parts::RowCount => {}
+        Parts::Binary(_, left, right) | Parts::Like(_, left, right) => {
+            mark(marks, columns, left);
+            mark(marks, columns, right);
+        }
+        Parts::Between(_, x, lower, upper) => {
+            mark(marks, columns, x);
+            mark(marks, columns, lower);
+            mark(marks, columns, upper);
+        }
+        Parts::IsNull(x) | Parts::IsNotNull(x) | Parts::Not(x) => mark(marks, columns, x),
+        Parts::Stat(aggregate, input) => mark_input(marks, columns, aggregate, input),
+    }
+}
+
+// Marks what a proof, if there is one, asks for.
+fn mark_if(marks: &mut [bool], columns: usize, proof: Option<&BoundExpression>)
+    requires { length marks.old ≡ columns * 9 }
+    ensures { (asked : ℕ → AggregateFnRef → Bool) → spec.AreMarks asked marks.old
+        → spec.AreMarks (λ i g. asked i g || spec.names_if (option_copied proof.entry) i g)
+        marks.new }
+{
+    if let Some(proof) = proof {
+        mark(marks, columns, proof);
+    }
+}
+
+// The mark of what a head tells.
+fn head_mark(marks: &[bool], head: &Head) -> bool
+    requires { spec.mark_place head.now.source head.now.aggregate < length marks.now }
+    ensures { (asked : ℕ → AggregateFnRef → Bool) → spec.AreMarks asked marks.now
+        → result ≡ asked head.now.source head.now.aggregate }
+{
+    marks[mark_place(head.source(), head.aggregate())]
+}
+
+// The marks of what the proofs ask for, with the places of so many columns.
+fn marks_of(alloc: Global, proofs: &PruningPredicate, columns: usize) -> Option<Vec<bool>>
+    ensures wide { IfSome result (λ marks. length marks.items ≡ columns * 9) }
+    ensures told { IfSome result (λ marks. spec.AreMarks
+        (spec.either_names proofs.now.falsifier proofs.now.satisfier) marks.items) }
+{
+    let mut marks = vec![in alloc; false; columns.checked_mul(9)?].ok()?;
+    mark_if(&mut marks, columns, proofs.falsifier());
+    mark_if(&mut marks, columns, proofs.satisfier());
+    Some(marks)
+}
+
+/// Whether the proofs ask for what stands below each head of a scope.
 pub(crate) fn named_heads(
     alloc: Global,
     proofs: &PruningPredicate,
+    scope: &Scope,
     heads: &[Head],
 ) -> Option<Vec<bool>>
+    requires { heads.now ≡ all_heads scope.now }
     ensures { IfSome result (λ named. named.items
         ≡ map (spec.names_head proofs.now.falsifier proofs.now.satisfier) heads.now) }
 {
+    let marks = marks_of(alloc, proofs, scope.len())?;
     let mut named = Vec::with_capacity(alloc, heads.len()).ok()?;
     for place in 0..heads.len() {
-        named.push(is_named(proofs, &heads[place])).ok()?;
+        named.push(head_mark(&marks, &heads[place])).ok()?;
     }
     Some(named)
 }

@@ -1,5 +1,5 @@
 -- Worked rows: the cells of maps' tables, filled from a caller's arrays.
-use Rattle.std.proofs.Common.{◌≡◌, ℕ, List, [], ◌∷◌, None, Some, Ok, Err, true, false, Bor, refl}
+use Rattle.std.proofs.Common.{◌≡◌, ℕ, List, [], ◌∷◌, None, Some, Ok, Err, true, false, Bor, codes, refl}
 use Rattle.vortex_base.specs.Data.Scopes.{Named}
 use Rattle.vortex_base.specs.declared.aggregate.AggregateFnRef.TheVariants as aggregate
 use Rattle.vortex_base.specs.declared.dtype.DType.TheVariants as dtype
@@ -8,12 +8,13 @@ use Rattle.vortex_base.specs.declared.scalar_value.ScalarValue.{ScalarValue}
 use Rattle.vortex_base.specs.declared.scalar_value.ScalarValue.TheVariants as value
 use Rattle.vortex_base.specs.declared.types.Nullability.TheVariants.{Nullable}
 use Rattle.vortex_base.specs.declared.types.PType.TheVariants as ptype
+use Rattle.vortex_zone_map.specs.ZoneMaps.{head}
 use Rattle.vortex_stats.specs.declared.precision.Precision.TheVariants.{Exact, Inexact, Absent}
 use Rattle.vortex_stats.specs.declared.stat.Stat.{Stat}
 use Rattle.vortex_stats.specs.declared.stat.Stat.TheVariants as stat
 use Rattle.vortex_calls.specs.declared.status.Status.TheVariants.{BadKnown, BadLength}
 use Rattle.vortex_calls.specs.declared.table.Source.{Source}
-use Rattle.vortex_calls.specs.MapCells.{is_of, last_of, told_cell, told_cells, value_by, zones_from}
+use Rattle.vortex_calls.specs.MapCells.{IsCounting, is_of, last_of, told_cell, told_cells, value_by, zones_from}
 use Rattle.vortex_calls.specs.Statuses.{at_entry, in_column}
 
 abbrev lent : List ℕ → Bor (List ℕ)
@@ -58,6 +59,14 @@ last_counts = refl
 
 among_the_first : last_of 0 stat.Max (first ∷ second ∷ least ∷ later ∷ []) 3 ≡ Some first
 among_the_first = refl
+
+-- where it stands for a head, and past all statistics where there is none
+
+stands_last : IsCounting (first ∷ second ∷ least ∷ later ∷ []) (head 0 (codes "a", dtype.Primitive ptype.U8 Nullable) aggregate.Max) 3
+stands_last = record { stat = stat.Max; reads = refl; last = refl }
+
+stands_nowhere : IsCounting (first ∷ second ∷ least ∷ later ∷ []) (head 1 (codes "b", dtype.Primitive ptype.U8 Nullable) aggregate.AllNull) 4
+stands_nowhere = record { stat = stat.NullCount; reads = refl; last = refl }
 
 of_its_column : last_of 1 stat.Max (first ∷ second ∷ least ∷ later ∷ []) 4 ≡ Some second
 of_its_column = refl

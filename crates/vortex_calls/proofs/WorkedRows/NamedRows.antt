@@ -22,7 +22,7 @@ use Rattle.vortex_prune.specs.declared.scan.verdict.Verdict.TheVariants.{Tested,
 use Rattle.vortex_stats.specs.declared.precision.Precision.TheVariants.{Exact}
 use Rattle.vortex_stats.specs.declared.stat.Stat.TheVariants as stats
 use Rattle.vortex_calls.specs.MapCells.{null_column}
-use Rattle.vortex_calls.specs.NamedStats.{AreNamed, HasNamed, asks, either_names, names, names_head}
+use Rattle.vortex_calls.specs.NamedStats.{AreNamed, HasNamed, asks, either_names, mark_place, names, names_head}
 use Rattle.vortex_calls.specs.Prunes.{AreRowAnswers}
 
 -- ---- the aggregates that proofs name, with the placeholder at each place of each node
@@ -115,6 +115,17 @@ head_of_another_column = refl
 
 head_of_another_aggregate : names_head (Some greatest) None (head 1 (own 98) aggregate.Min) ≡ false
 head_of_another_aggregate = refl
+
+-- ---- the marks of two columns, of which the greatest value of the second is asked for
+
+place_of_the_greatest : mark_place 1 aggregate.Max ≡ 9
+place_of_the_greatest = refl
+
+place_of_the_least : mark_place 1 aggregate.Min ≡ 10
+place_of_the_least = refl
+
+last_place : mark_place 1 aggregate.MinMax ≡ 17
+last_place = refl
 
 -- ---- a map that has what is named: of a column of nulls, whether none is null
 

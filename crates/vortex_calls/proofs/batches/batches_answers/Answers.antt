@@ -19,7 +19,7 @@ batches-smaller c =
     let within : from + n ≤ length c.args.rows.now = omega (arith, c.next_count-count.ensures.within, c.batches-test.true, c.len-from.ensures, c.batches.invariant.within) in
     let batch = zones_there c.args.scope.now c.args.sources.now c.args.rows.now c.requires.typed c.requires.read from n within in
     let long = batch_long c.args.proofs.now.falsifier c.args.proofs.now.satisfier c.args.scope.now c.args.sources.now c.args.rows.now from n c.in_ok-more.more.items batch (c.in_ok-more.ensures batch.zones batch.found) in
-    omega (arith, long, c.in_ok-more.more.ok.0, c.in-Ok-append.ensures.len, c.next_count-count.ensures.some, within, c.len-from.ensures)
+    omega (arith, long, c.in_ok-more.more.ok.0, c.in-Ok.ensures.len, c.next_count-count.ensures.some, within, c.len-from.ensures)
 
 pub batches-preserved : goal.batches-preserved
 batches-preserved c =
@@ -34,10 +34,10 @@ batches-preserved c =
     let batch = zones_there scope sources rows c.requires.typed c.requires.read from n within in
     let told = c.in_ok-more.ensures batch.zones batch.found in
     let long = batch_long f s scope sources rows from n c.in_ok-more.more.items batch told in
-    let end : from + n ≡ vec_len c.append.new.self = omega (arith, long, c.in_ok-more.more.ok.0, c.in-Ok-append.ensures.len, c.len-from.ensures) in
+    let end : from + n ≡ vec_len c.append.new.self = omega (arith, long, c.in_ok-more.more.ok.0, c.in-Ok.ensures.len, c.len-from.ensures) in
     let before = subst (λ k. IsAnswered f s scope sources rows k c.batches.answers.items) (sym c.len-from.ensures) c.batches.invariant.answered in
     record {
       within = omega (arith, end, within);
       answered = subst (λ k. IsAnswered f s scope sources rows k c.append.new.self.items) end
-          (batch_answered f s scope sources rows from n c.batches.answers.items c.in_ok-more.more.items c.append.new.self.items batch c.in-Ok-append.ensures.items told before);
+          (batch_answered f s scope sources rows from n c.batches.answers.items c.in_ok-more.more.items c.append.new.self.items batch c.in-Ok.ensures.items told before);
     }

@@ -1,5 +1,4 @@
-use Rattle.std.proofs.Common.{ap, length, map, subst, sym, ◌∙◌}
-use Rattle.std.proofs.lemmas.List.{length-map}
+use Rattle.std.proofs.Common.{ap, map, subst, sym, ◌∙◌}
 use Rattle.std.specs.Prelude.{IsTrue}
 use Rattle.vortex_zone_map.specs.Zone.{zones_fit}
 use Rattle.vortex_zone_map.specs.ZoneMaps.{heads}
@@ -9,9 +8,6 @@ use Rattle.vortex_calls.proofs.BatchLemmas.{zones_of_batch}
 use Rattle.vortex_calls.proofs.NamedLemmas.{named_answers}
 use Rattle.vortex_calls.proofs.batches.Batch.answers.Goals as goal
 
-pub map-requires-clause-named : goal.map-requires-clause-named
-map-requires-clause-named c = ap length c.requires.named ∙ length-map c.args.heads.now (names_head c.args.proofs.now.falsifier c.args.proofs.now.satisfier)
-
 pub returns-in-Ok : goal.returns-in-Ok
 returns-in-Ok c = λ zones found.
     let b = c.args.self.now in
@@ -20,6 +16,6 @@ returns-in-Ok c = λ zones found.
     let m = c.in_ok-map.map in
     let scoped = c.in_ok-map.ensures.scoped in
     let fit = subst (λ s. IsTrue (zones_fit s zones)) (sym scoped) (zones_of_batch b c.requires.batch zones found) in
-    let named = c.requires.named ∙ ap (map (names_head f t)) (c.requires.heads ∙ ap heads (sym scoped)) in
-    named_answers f t m zones c.args.named.now named (c.in_ok-map.ensures.has zones found) fit c.in-Ok.answers.items c.in-Ok.ensures.rows
+    let named = c.requires.named ∙ ap (map (names_head f t)) (c.requires.lookups.heads ∙ ap heads (sym scoped)) in
+    named_answers f t m zones c.args.lookups.now.named.items named (c.in_ok-map.ensures.has zones found) fit c.in-Ok.answers.items c.in-Ok.ensures.rows
     ∙ ap (λ s. map (answer_by f t s) zones) scoped

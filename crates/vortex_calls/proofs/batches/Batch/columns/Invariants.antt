@@ -8,5 +8,5 @@ use Rattle.vortex_calls.proofs.batches.Batch.columns.Given as goal
 abbrev pub invariant-loop-place : goal.invariant-loop-place
 invariant-loop-place l = record {
   long : length l.columns.items ≡ l.place;
-  told : (zones : List ZoneData) → batch_zones l.self ≡ Ok zones → AreNamed l.named l.heads zones l.columns.items;
+  told : (zones : List ZoneData) → batch_zones l.self ≡ Ok zones → AreNamed l.lookups.named.items l.lookups.heads.items zones l.columns.items;
 }
