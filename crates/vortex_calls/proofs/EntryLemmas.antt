@@ -1,6 +1,5 @@
 -- The entries of the statistics that count.
-use Rattle.std.proofs.Common.{◌≡◌, ◌≢◌, ◌==◌, ◌<◌, ◌≤◌, ◌+◌, ◌*◌, ◌&&◌, ℕ, zero, suc, add-one, Bool, true, false, cond, List, [], ◌∷◌, ◌++◌, Option, Some, None, ap, arith, eq-eqb, eqb-true, inl, inr, length, refl, subst, sym, ◌∙◌}
-use Rattle.std.proofs.lemmas.List.{length-set}
+use Rattle.std.proofs.Common.{◌≡◌, ◌==◌, ◌<◌, ◌≤◌, ◌+◌, ◌*◌, ℕ, add-one, true, false, List, [], ◌∷◌, ◌++◌, Some, ap, arith, eq-eqb, eqb-true, inl, inr, length, refl, subst, sym, ◌∙◌}
 use Rattle.std.proofs.lemmas.Option.{same_Some, slice_get-get_or, slice_get_past, slice_get_within}
 use Rattle.std.specs.Prelude.{replicate, slice_get, slice_set}
 use Rattle.vortex_base.specs.Data.Exact.{both_hold, both_true}
@@ -11,9 +10,9 @@ use Rattle.vortex_zone_map.proofs.TableLemmas.{set_elsewhere, set_there}
 use Rattle.vortex_prune.proofs.ZoneMaps.ZoneScan.{all_pushed}
 use Rattle.vortex_zone_map.specs.Tables.{slot}
 use Rattle.vortex_zone_map.specs.ZoneMaps.{Head}
-use Rattle.vortex_calls.specs.MapCells.{AreCounting, AreLasts, IsCounting, is_of, last_of, next_last}
+use Rattle.vortex_calls.specs.MapCells.{AreCounting, AreLasts, IsCounting, is_of, last_of}
 use Rattle.vortex_calls.specs.declared.table.Source.{Source}
-use Rattle.vortex_calls.proofs.PlaceLemmas.{column_within, own_place, place_there, replicated, same_or_not, untrue}
+use Rattle.vortex_calls.proofs.PlaceLemmas.{column_within, own_place, replicated, same_or_not, untrue}
 
 abbrev pub source_slot : Source → ℕ
 source_slot x = slot x.statistic.column x.stat

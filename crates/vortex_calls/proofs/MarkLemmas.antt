@@ -1,16 +1,16 @@
 -- The marks of what proofs name.
-use Rattle.std.proofs.Common.{◌≡◌, ◌≢◌, ◌==◌, ◌<◌, ◌≤◌, ◌+◌, ◌*◌, ◌&&◌, ◌||◌, ℕ, zero, suc, Bool, true, false, List, Option, Some, None, ap, arith, eq-eqb, eqb-true, inl, inr, length, refl, subst, sym, ◌∙◌}
+use Rattle.std.proofs.Common.{◌≡◌, ◌==◌, ◌<◌, ◌≤◌, ◌*◌, ◌||◌, ℕ, zero, suc, Bool, true, false, List, ap, arith, eq-eqb, eqb-true, inl, inr, length, refl, sym, ◌∙◌}
 use Rattle.std.proofs.lemmas.Option.{same_Some, slice_get-get_or, slice_get_within}
 use Rattle.std.specs.Prelude.{replicate, slice_get, slice_set}
 use Rattle.vortex_base.specs.Data.Exact.{both_hold, both_true}
 use Rattle.vortex_base.specs.declared.aggregate.AggregateFnRef.{AggregateFnRef}
 use Rattle.vortex_base.specs.declared.aggregate.AggregateFnRef.TheVariants as aggregate
-use Rattle.vortex_expr.specs.Trees.Tree.{Place, Tree, column}
+use Rattle.vortex_expr.specs.Trees.Tree.{Place, column}
 use Rattle.vortex_expr.specs.Trees.TreeEq.{aggregate_eq}
 use Rattle.vortex_zone_map.proofs.TableLemmas.{set_elsewhere, set_there}
 use Rattle.vortex_zone_map.proofs.ZoneMaps.HeadPlaces.{aggregate_eq_is_exact}
 use Rattle.vortex_calls.specs.NamedStats.{AreMarks, asks, code, mark_place}
-use Rattle.vortex_calls.proofs.PlaceLemmas.{column_within, own_place, place_there, replicated, same_or_not, untrue}
+use Rattle.vortex_calls.proofs.PlaceLemmas.{column_within, own_place, replicated, same_or_not, untrue}
 
 -- ---- the number of an aggregate
 

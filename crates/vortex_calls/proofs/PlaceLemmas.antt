@@ -1,5 +1,5 @@
 -- Tables with nine places for each column.
-use Rattle.std.proofs.Common.{◌≡◌, ◌≢◌, ◌<◌, ◌+◌, ◌*◌, ℕ, zero, suc, Bool, true, false, List, [], ◌∷◌, Option, Some, Result, Ok, Err, ap, arith, inl, inr, length, refl, subst, sym, take, drop, ◌++◌, ◌⊎◌, ◌∙◌}
+use Rattle.std.proofs.Common.{◌≡◌, ◌≢◌, ◌<◌, ◌+◌, ◌*◌, ℕ, zero, suc, Bool, true, false, List, Some, Result, Ok, Err, ap, arith, inl, inr, length, refl, subst, sym, take, drop, ◌++◌, ◌⊎◌, ◌∙◌}
 use Rattle.std.proofs.Math.Seq.{take-append_seam}
 use Rattle.std.proofs.lemmas.Option.{same_Some}
 use Rattle.std.specs.Prelude.{IfOk, replicate, slice_get}

@@ -32,8 +32,8 @@ use vortex_zone_map::{Head, ZoneMap};
 // How many cells are made at once of statistics. Each takes up to 9 bytes, and a text its own more.
 const BATCH_CELLS: usize = 32768;
 
-// What a call looks up once for each head of its scope: whether the proofs name it, and where the
-// statistic stands that counts for it. Where none is, it is the number of statistics.
+// The heads of a scope, with whether the proofs name each, and where the statistic stands that
+// counts for it. Where none is, it is the number of statistics.
 #[derive(Drop)]
 struct Lookups {
     heads: Vec<Head>,
@@ -205,8 +205,8 @@ fn zones_of(proof: Option<&BoundExpression>) -> usize {
     }
 }
 
-// How many zones a map has: as many as fill a batch with cells, or more under many heads, below each
-// of which each map has a column, or under long proofs, which are bound anew for each map.
+// How many zones a map has: as many as fill a batch with cells, or more under many heads, below
+// each of which each map has a column, or under long proofs, which are bound anew for each map.
 fn batch_size(named: &[bool], proofs: &PruningPredicate) -> usize
     ensures { 0 < result }
 {
@@ -219,7 +219,7 @@ fn batch_size(named: &[bool], proofs: &PruningPredicate) -> usize
     }
 }
 
-// What is looked up for the heads of a scope.
+// The heads of a scope with all that is looked up for them once a call.
 fn lookups_of(
     alloc: Global,
     scope: &Scope,

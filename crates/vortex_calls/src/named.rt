@@ -1,6 +1,6 @@
 //! The proofs of a predicate, the aggregates that they name, and what they answer for zones.
-ghost use Rattle.std.specs.Prelude.{◌≡◌, ◌*◌, ◌<◌, ◌^◌, ◌||◌, ℕ, Bool, IfErr, IfOk, IfSome, IsTrue, List, []};
-ghost use Rattle.std.specs.Prelude.{Some, length, map, option_copied};
+ghost use Rattle.std.specs.Prelude.{◌≡◌, ◌*◌, ◌<◌, ◌^◌, ◌||◌, ℕ, Bool, IfErr, IfOk, IfSome, IsTrue};
+ghost use Rattle.std.specs.Prelude.{List, [], Some, length, map, option_copied};
 ghost use Rattle.vortex_base.specs.declared.aggregate.AggregateFnRef.{AggregateFnRef};
 ghost use Rattle.vortex_calls.specs.NamedStats as spec;
 ghost use Rattle.vortex_calls.specs.Prunes.{AreClosed, AreRowAnswers, zone_answers};

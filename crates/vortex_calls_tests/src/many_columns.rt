@@ -98,16 +98,25 @@ fn together(alloc: Global, columns: &[Arrays]) -> Result<[u8; 8], Fail> {
         stats.push(exact(place, 3, &column.first))?;
         stats.push(exact(place, 6, &column.nulls))?;
         stats.push(exact(place, 4, &column.least))?;
-        let word = if place + 1 < columns.len() { "and " } else { "" };
+        let word = if place + 1 < columns.len() {
+            "and "
+        } else {
+            ""
+        };
         predicate.push_str(format!(in alloc; "{word}gt col {name} lit u8 100 ")?.as_str())?;
     }
     for (place, column) in columns.iter().enumerate() {
         stats.push(exact(place, 3, &column.last))?;
     }
-    pruned(alloc, &names, &stats, predicate.as_str().trim_end().as_bytes())
+    pruned(
+        alloc,
+        &names,
+        &stats,
+        predicate.as_str().trim_end().as_bytes(),
+    )
 }
 
-// The same of one column, by the statistics that count.
+// Whether one column has, by the statistics that count.
 fn alone(alloc: Global, column: &Arrays) -> Result<[u8; 8], Fail> {
     let stats = [
         exact(0, 3, &column.last),

@@ -1,7 +1,7 @@
-use Rattle.std.proofs.Common.{◌≡◌, ◌+◌, ◌*◌, ◌<◌, ◌||◌, ap, arith, length, subst, sym, true, ◌∙◌}
+use Rattle.std.proofs.Common.{◌||◌, arith, subst, sym, true}
 use Rattle.std.specs.Prelude.{slice_set}
 use Rattle.vortex_expr.specs.Trees.Tree.{Place, column}
-use Rattle.vortex_calls.specs.NamedStats.{AreMarks, asks, mark_place}
+use Rattle.vortex_calls.specs.NamedStats.{AreMarks, asks}
 use Rattle.vortex_calls.proofs.MarkLemmas.{code_below, mark_passed, one_more_mark}
 use Rattle.vortex_calls.proofs.PlaceLemmas.{place_there}
 use Rattle.vortex_calls.proofs.named.mark_input.Goals as goal

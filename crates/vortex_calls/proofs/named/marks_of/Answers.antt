@@ -1,5 +1,4 @@
-use Rattle.std.proofs.Common.{◌≡◌, ◌++◌, ◌||◌, ℕ, Bool, List, Option, Some, drop, false, ap, length, rules, subst, subst₂, sym, take, ◌∙◌}
-use Rattle.vortex_base.specs.declared.aggregate.AggregateFnRef.{AggregateFnRef}
+use Rattle.std.proofs.Common.{◌≡◌, ◌++◌, Bool, List, Option, drop, false, length, rules, subst, subst₂, sym, take, ◌∙◌}
 use Rattle.vortex_expr.specs.Trees.Tree.{Place, Tree}
 use Rattle.vortex_calls.specs.NamedStats.{AreMarks, either_names, names_if}
 use Rattle.vortex_calls.proofs.MarkLemmas.{no_marks}
