@@ -165,7 +165,8 @@ fn told_itself<N: Number>(aggregate: AggregateFnRef, is_exact: bool, number: N) 
 {
     match told_of(aggregate, is_exact, number.value(), 0) {
         Told::Value => Some(number),
-        Told::Truth(_) | Told::Nothing => None,
+        Told::Truth(_truth) => None,
+        Told::Nothing => None,
     }
 }
 
@@ -196,8 +197,9 @@ fn told_as_truth(
         ≡ told_value aggregate (known_as is_exact (value.Primitive number)) rows }
 {
     match told_of(aggregate, is_exact, number, rows) {
+        Told::Value => None,
         Told::Truth(truth) => Some(truth),
-        Told::Value | Told::Nothing => None,
+        Told::Nothing => None,
     }
 }
 

@@ -106,10 +106,10 @@ fn keep_within(table: Table<'_>, e: &BoundExpression, from: usize, marks: &mut [
         IsTrue result → marks.new ≡ marked test from marks.old }
     ensures same { result ≡ false → marks.new ≡ marks.old }
 {
-    let _rows = table.chunk.rows();
     if marks.len() < MANY {
         return false;
     }
+    let _rows = table.chunk.rows();
     match within(table.chunk, e) {
         Some(ends) => {
             keep_lying(ends, from, marks);

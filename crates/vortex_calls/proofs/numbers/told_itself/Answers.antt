@@ -10,13 +10,13 @@ returns-in-Value g c = λ rows.
     let f = c.args.aggregate in
     let b = c.args.is_exact in
     let v = value.Primitive c.value.result in
-    ap Some (g.N.Number.kept c.args.number) ∙ ap (λ p. Some (value.Primitive p)) (sym c.value.ensures) ∙ ap (told_cell v) (sym c.in-Value.is) ∙ c.told_of.ensures ∙
+    ap Some (g.met.N.Number.kept c.args.number) ∙ ap (λ p. Some (value.Primitive p)) (sym c.value.ensures) ∙ ap (told_cell v) (sym c.in-Value.is) ∙ c.told_of.ensures ∙
     rows_aside f (known_as b v) 0 rows c.requires ∙ ap (λ p. told_value f (known_as b (value.Primitive p)) rows) c.value.ensures
 
 pub returns-in-Truth : goal.returns-in-Truth
 returns-in-Truth g c = λ rows.
     let v = value.Primitive c.value.result in
-    absurd (tells_no_truth c.args.aggregate c.args.is_exact c.value.result 0 c.in-Truth.field-0 c.requires (ap (told_cell v) (sym c.in-Truth.is) ∙ c.told_of.ensures))
+    absurd (tells_no_truth c.args.aggregate c.args.is_exact c.value.result 0 c.in-Truth._truth c.requires (ap (told_cell v) (sym c.in-Truth.is) ∙ c.told_of.ensures))
 
 pub returns-in-Nothing : goal.returns-in-Nothing
 returns-in-Nothing g c = λ rows.

@@ -6,8 +6,8 @@ use Rattle.vortex_calls.proofs.sql.prune_sql.prune_sql.Goals as goal
 
 pub returns-in-Err-condition_given-clause-refused : goal.returns-in-Err-condition_given-clause-refused
 returns-in-Err-condition_given-clause-refused c = λ _ four.
-    text_refused (scope_asked c.args.scope.now c.args.rows.now c.args.flags (length c.args.answers.now)) c.in-Ok.scope c.args.rows.now c.args.stats.now c.args.text.now (length c.args.unread.now) c.told.result c.args.len.now c.told.new.fault
-    c.in-Err-condition_given.refusal c.in-Ok.ensures.read c.in-Err-condition_given.ensures.refused c.told.ensures four
+    text_refused (scope_asked c.args.scope.now c.args.rows.now c.args.flags (length c.args.answers.now)) c.in-Ok.scope c.args.rows.now c.args.stats.now c.args.text.now (length c.args.unread.now) c.tell.result c.args.len.now c.tell.new.fault
+    c.in-Err-condition_given.refusal c.in-Ok.ensures.read c.in-Err-condition_given.ensures.refused c.tell.ensures four
 
 pub returns-in-Ok-condition_given-clause-answered : goal.returns-in-Ok-condition_given-clause-answered
 returns-in-Ok-condition_given-clause-answered c = λ zero.
