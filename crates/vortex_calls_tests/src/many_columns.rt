@@ -9,6 +9,7 @@ use vortex_calls::statistic::Statistic;
 const COLUMNS: usize = 300;
 
 // The arrays of a column: of its greatest value first and last, of its least and of its nulls.
+#[derive(Drop)]
 struct Arrays {
     name: String,
     first: [u8; 8],
@@ -19,7 +20,7 @@ struct Arrays {
 
 // The column at a place. Three columns have small values in one zone each, a fourth has nulls in
 // one, and each greatest value that stands first says the contrary.
-fn arrays(alloc: Global, column: usize) -> Result<Arrays, Fail> {
+fn arrays_of(alloc: Global, column: usize) -> Result<Arrays, Fail> {
     let mut made = Arrays {
         name: format!(in alloc; "c{column}")?,
         first: [5; 8],
@@ -141,7 +142,7 @@ fn many_columns_are_told_as_each_alone(rt: HostRuntime) -> Result<(), Fail> {
     let mut columns = Vec::new(alloc);
     let mut expected = [2u8; 8];
     for place in 0..COLUMNS {
-        let column = arrays(alloc, place)?;
+        let column = arrays_of(alloc, place)?;
         let own = alone(alloc, &column)?;
         for zone in 0..8 {
             expected[zone] = both(expected[zone], own[zone]);
