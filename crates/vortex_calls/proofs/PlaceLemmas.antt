@@ -1,7 +1,10 @@
 -- Tables with nine places for each column.
-use Rattle.std.proofs.Common.{◌≡◌, ◌≢◌, ◌<◌, ◌+◌, ◌*◌, ℕ, zero, suc, Bool, true, false, List, Some, Result, Ok, Err, ap, arith, inl, inr, length, refl, subst, sym, take, drop, ◌++◌, ◌⊎◌, ◌∙◌}
+use Rattle.std.proofs.Common.{◌≡◌, ◌≢◌, ◌<◌, ◌+◌, ◌*◌, ℕ, zero, suc, Bool, true, false, List, Some, Result, Ok, Err, ap, arith, inl, inr, length, refl, subst, sym, take, drop, get_or, ◌++◌, ◌⊎◌, ◌∙◌}
 use Rattle.std.proofs.Math.Seq.{take-append_seam}
-use Rattle.std.proofs.lemmas.Option.{same_Some}
+use Rattle.std.proofs.lemmas.Option.{same_Some, slice_get-get_or, slice_get_within}
+use Rattle.vortex_base.specs.Data.Scopes.{Named}
+use Rattle.vortex_zone_map.proofs.ZoneMaps.ZoneNames.{head_tells}
+use Rattle.vortex_zone_map.specs.ZoneMaps.{Head, heads}
 use Rattle.std.specs.Prelude.{IfOk, replicate, slice_get}
 use Rattle.std.specs.Result.{result_ok}
 
@@ -39,3 +42,9 @@ of_some (Err e) P x same holds = absurd cc
 -- what a call leaves in a list whose length stays
 pub written : {X : Type 0} (n : ℕ) (new old : List X) → length new ≡ n → take n (new ++ drop (length new) old) ≡ new
 written n new old long = ap (λ k. take k (new ++ drop (length new) old)) (sym long) ∙ take-append_seam new (drop (length new) old)
+
+-- the column that a head of a scope tells of is one of the scope's
+pub source_within : (scope : List Named) (hs : List Head) (place : ℕ) (h : Head) → hs ≡ heads scope → place < length hs → h ≡ get_or hs place h → h.source < length scope
+source_within scope hs place h same within is =
+    let tells = head_tells scope place h (ap (λ l. slice_get l place) (sym same) ∙ slice_get-get_or hs place h within ∙ ap Some (sym is)) in
+    slice_get_within scope h.source tells.0 tells.1

@@ -1,20 +1,16 @@
 use Rattle.std.proofs.Common.{◌≡◌, ◌+◌, ◌*◌, ◌++◌, ◌∷◌, [], if◌then◌else◌, Some, ap, arith, length, subst, sym, ◌∙◌}
 use Rattle.std.proofs.lemmas.List.{length_push}
-use Rattle.std.proofs.lemmas.Option.{slice_get-get_or, slice_get_within}
-use Rattle.std.specs.Prelude.{slice_get}
-use Rattle.vortex_zone_map.proofs.ZoneMaps.ZoneNames.{head_tells}
+use Rattle.std.proofs.lemmas.Option.{slice_get-get_or}
 use Rattle.vortex_calls.specs.MapCells.{AreLasts}
 use Rattle.vortex_calls.proofs.EntryLemmas.{one_more_counts}
+use Rattle.vortex_calls.proofs.PlaceLemmas.{source_within}
 use Rattle.vortex_calls.proofs.cells.head_entries.Goals as goal
 
 pub head_entry-requires : goal.head_entry-requires
 head_entry-requires c =
     let scope = c.args.scope.now in
     let h = c.index-heads-place.result in
-    let place = c.loop-place.place in
-    let tells = head_tells scope place h
-    (ap (λ l. slice_get l place) (sym c.requires) ∙ slice_get-get_or c.args.heads.now place h c.loop-place-test.true ∙ ap Some (sym c.index-heads-place.is)) in
-    let within = slice_get_within scope h.source tells.0 tells.1 in
+    let within = source_within scope c.args.heads.now c.loop-place.place h c.requires c.loop-place-test.true c.index-heads-place.is in
     let columns : c.len.result ≡ length scope = c.len.ensures.value in
     let wide : length c.in_ok-lasts.lasts.items ≡ c.len.result * 9 = c.in_ok-lasts.ensures.wide in
     let same : c.deref.result.now ≡ c.in_ok-lasts.lasts.items = c.deref.ensures.value in

@@ -1,21 +1,16 @@
-use Rattle.std.proofs.Common.{◌≡◌, ◌*◌, ◌++◌, ◌∷◌, [], Some, if◌then◌else◌, ap, arith, length, map, subst, sym, take, ◌∙◌}
+use Rattle.std.proofs.Common.{◌≡◌, ◌*◌, ◌++◌, ◌∷◌, [], if◌then◌else◌, ap, arith, length, map, subst, sym, take, ◌∙◌}
 use Rattle.std.proofs.lemmas.List.{map_push, take_more}
-use Rattle.std.proofs.lemmas.Option.{slice_get-get_or, slice_get_within}
-use Rattle.std.specs.Prelude.{slice_get}
-use Rattle.vortex_zone_map.proofs.ZoneMaps.ZoneNames.{head_tells}
 use Rattle.vortex_calls.specs.NamedStats.{AreMarks, either_names, names_head}
 use Rattle.vortex_calls.proofs.MarkLemmas.{code_below}
-use Rattle.vortex_calls.proofs.PlaceLemmas.{place_there}
+use Rattle.vortex_calls.proofs.PlaceLemmas.{place_there, source_within}
 use Rattle.vortex_calls.proofs.named.named_heads.Goals as goal
 
 pub head_mark-requires : goal.head_mark-requires
 head_mark-requires c =
     let scope = c.args.scope.now in
     let h = c.index-heads-place.result in
-    let place = c.loop-place.place in
-    let tells = head_tells scope place h
-    (ap (λ l. slice_get l place) (sym c.requires) ∙ slice_get-get_or c.args.heads.now place h c.loop-place-test.true ∙ ap Some (sym c.index-heads-place.is)) in
-    let there = place_there h.source (length scope) _ (code_below h.aggregate) (slice_get_within scope h.source tells.0 tells.1) in
+    let within = source_within scope c.args.heads.now c.loop-place.place h c.requires c.loop-place-test.true c.index-heads-place.is in
+    let there = place_there h.source (length scope) _ (code_below h.aggregate) within in
     let columns : c.len.result ≡ length scope = c.len.ensures.value in
     let wide : length c.deref.result.now ≡ c.len.result * 9 = ap length c.deref.ensures.value ∙ c.in_ok-marks.ensures.wide in
     omega (arith, there, columns, wide)
