@@ -44,8 +44,8 @@ pub fn null_examples_hold()
     ensures boxes { FarExamples }
 {}
 
-/// Where bounds aren't known, a box goes far enough for a test if its sides there lie beyond all that
-/// the test compares.
+/// Where bounds aren't known, a box goes far enough for a test if its sides there lie beyond all
+/// that the test compares.
 pub fn beyond_goes_far()
     ensures { BeyondGoesFar }
 {}

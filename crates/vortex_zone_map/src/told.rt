@@ -50,9 +50,9 @@ fn is_all_non_null(is_exact: bool, count: Option<u64>) -> Told
 }
 
 impl Told {
-    /// Says what a known value of the statistic that `StatFn::reads` names tells for an aggregate of
-    /// a column of so many rows: by whether the value is exact, and by the count that it is, if it
-    /// is one. So it serves values of whatever type they are read as.
+    /// Says what a known value of the statistic that `StatFn::reads` names tells for an aggregate
+    /// of a column of so many rows: by whether the value is exact, and by the count that it is, if
+    /// it is one. So it serves values of whatever type they are read as.
     #[inline]
     pub fn of(aggregate: AggregateFnRef, is_exact: bool, count: Option<u64>, rows: u64) -> Told
         ensures { IsToldOf aggregate is_exact count rows result }
