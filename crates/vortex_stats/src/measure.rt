@@ -6,7 +6,6 @@ ghost use Rattle.vortex_stats.specs.Precision.{is_exact};
 ghost use Rattle.vortex_stats.specs.Sets.Claims.{IsTrueOf};
 
 mod checks;
-mod keyed;
 mod measures;
 mod pass;
 mod tally;

@@ -16,12 +16,12 @@ ghost use Rattle.vortex_stats.specs.Stat.{stat_dtype};
 ghost use Rattle.vortex_stats.specs.declared.stat.Stat.TheVariants.{Sum};
 ghost use Rattle.vortex_stats.specs.declared.measure.pass.Family.TheVariants as families;
 
-use crate::measure::keyed::{Signed, Unsigned, signed_key, unsigned_key};
 use crate::measure::measures::Measures;
 use crate::measure::tally::Tally;
 use vortex_base::cells::Cells;
 use vortex_base::column::Column;
 use vortex_base::dtype::DType;
+use vortex_base::native::Native;
 use vortex_base::natives::Natives;
 use vortex_base::pvalue::PValue;
 use vortex_base::texts::Texts;
@@ -83,6 +83,28 @@ fn unsigned_of_value(value: Option<ValueRef<'_>>) -> Option<u64>
     }
 }
 
+// The number of an optional value of its own type that is a signed one.
+#[inline]
+fn signed_of_native<T: Native>(native: Option<T>) -> Option<i64>
+    ensures { result ≡ signed_number (option_map T.scalar native) }
+{
+    match native {
+        Some(native) => signed_of_value(Some(native.lend())),
+        None => None,
+    }
+}
+
+// The number of an optional value of its own type that is an unsigned one.
+#[inline]
+fn unsigned_of_native<T: Native>(native: Option<T>) -> Option<u64>
+    ensures { result ≡ unsigned_number (option_map T.scalar native) }
+{
+    match native {
+        Some(native) => unsigned_of_value(Some(native.lend())),
+        None => None,
+    }
+}
+
 // The text of an optional value that is one.
 #[inline]
 fn text_of(value: Option<ValueRef<'_>>) -> Option<&str>
@@ -128,7 +150,7 @@ fn unsigned_sum(sum: u128) -> Option<PValue>
 }
 
 // The measures of signed numbers that are kept as their type.
-fn signed_natives<T: Signed>(natives: &Natives<T>, dtype: DType) -> Measures
+fn signed_natives<T: Native>(natives: &Natives<T>, dtype: DType) -> Measures
     requires signed { type_family dtype ≡ families.Signed }
     requires fits { IsTrue (all_fit dtype (map (option_map T.scalar) natives.now)) }
     ensures { AreMeasuresOf result dtype (map (option_map T.scalar) natives.now) }
@@ -138,7 +160,7 @@ fn signed_natives<T: Signed>(natives: &Natives<T>, dtype: DType) -> Measures
     let mut tally = Tally::new();
     let mut sum: i128 = 0;
     for i in 0..natives.len() {
-        let number = signed_key(natives.get(i));
+        let number = signed_of_native(natives.get(i));
         sum += i128::from(number.unwrap_or(0));
         tally.push(number, i);
     }
@@ -162,7 +184,7 @@ fn signed_values(column: &Column) -> Measures
 }
 
 // The measures of unsigned numbers and truths that are kept as their type.
-fn unsigned_natives<T: Unsigned>(natives: &Natives<T>, dtype: DType) -> Measures
+fn unsigned_natives<T: Native>(natives: &Natives<T>, dtype: DType) -> Measures
     requires unsigned { type_family dtype ≡ families.Unsigned }
     requires fits { IsTrue (all_fit dtype (map (option_map T.scalar) natives.now)) }
     ensures { AreMeasuresOf result dtype (map (option_map T.scalar) natives.now) }
@@ -172,7 +194,7 @@ fn unsigned_natives<T: Unsigned>(natives: &Natives<T>, dtype: DType) -> Measures
     let mut tally = Tally::new();
     let mut sum: u128 = 0;
     for i in 0..natives.len() {
-        let number = unsigned_key(natives.get(i));
+        let number = unsigned_of_native(natives.get(i));
         sum += u128::from(number.unwrap_or(0));
         tally.push(number, i);
     }

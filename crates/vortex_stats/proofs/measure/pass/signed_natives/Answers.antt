@@ -26,12 +26,12 @@ loop-i-preserved g c =
     let within : i < length natives = omega (arith, c.loop-i-test.true, c.len-i-end.ensures) in
     let here = native_here f natives i within in
     let fits = fits_at t xs i x c.requires.fits here in
-    let is : c.signed_key-number.result ≡ signed_number x = c.signed_key-number.ensures ∙ ap (λ n. signed_number (option_map f n)) c.get.ensures in
-    let key : IsOptionalKeyOf signed_code t c.signed_key-number.result x = rw is (signed_key t x c.requires.signed fits) in
+    let is : c.signed_of_native-number.result ≡ signed_number x = c.signed_of_native-number.ensures ∙ ap (λ n. signed_number (option_map f n)) c.get.ensures in
+    let key : IsOptionalKeyOf signed_code t c.signed_of_native-number.result x = rw is (signed_key t x c.requires.signed fits) in
     let added = signed_next t xs i x here c.requires.signed fits in
     let number : c.unwrap_or.result ≡ unwrap_or (signed_number x) (pos 0) = c.unwrap_or.ensures ∙ ap (λ k. unwrap_or k (pos 0)) is in
     record {
-      told = told_next t xs i x here signed_code c.loop-i.tally c.push.new.self c.signed_key-number.result c.push.ensures key c.loop-i.invariant.told;
+      told = told_next t xs i x here signed_code c.loop-i.tally c.push.new.self c.signed_of_native-number.result c.push.ensures key c.loop-i.invariant.told;
       summed = omega (arith, ints);
       low = omega (arith, ints);
       high = omega (arith, ints);

@@ -26,12 +26,12 @@ loop-i-preserved g c =
     let within : i < length natives = omega (arith, c.loop-i-test.true, c.len-i-end.ensures) in
     let here = native_here f natives i within in
     let fits = fits_at t xs i x c.requires.fits here in
-    let is : c.unsigned_key-number.result ≡ unsigned_number x = c.unsigned_key-number.ensures ∙ ap (λ n. unsigned_number (option_map f n)) c.get.ensures in
-    let key : IsOptionalKeyOf unsigned_code t c.unsigned_key-number.result x = rw is (unsigned_key t x c.requires.unsigned fits) in
+    let is : c.unsigned_of_native-number.result ≡ unsigned_number x = c.unsigned_of_native-number.ensures ∙ ap (λ n. unsigned_number (option_map f n)) c.get.ensures in
+    let key : IsOptionalKeyOf unsigned_code t c.unsigned_of_native-number.result x = rw is (unsigned_key t x c.requires.unsigned fits) in
     let added = unsigned_next t xs i x here c.requires.unsigned fits in
     let number : c.unwrap_or.result ≡ unwrap_or (unsigned_number x) 0 = c.unwrap_or.ensures ∙ ap (λ k. unwrap_or k 0) is in
     record {
-      told = told_next t xs i x here unsigned_code c.loop-i.tally c.push.new.self c.unsigned_key-number.result c.push.ensures key c.loop-i.invariant.told;
+      told = told_next t xs i x here unsigned_code c.loop-i.tally c.push.new.self c.unsigned_of_native-number.result c.push.ensures key c.loop-i.invariant.told;
       summed = omega (arith, ints);
       high = omega (arith, ints);
     }
