@@ -4,8 +4,8 @@ ghost use Rattle.vortex_rewrite.specs.Answers.{Makes, OkOrMemory};
 ghost use Rattle.vortex_normal.specs.Balanced as spec;
 
 use crate::leaves::connected;
-use crate::predicate::Predicate;
 use std::alloc::Global;
+use vortex_rewrite::predicate::Predicate;
 use vortex_stats::error::StatsError;
 
 // Neighbours joined by AND or by OR; the last of an odd number stays as it is.

@@ -9,7 +9,6 @@ ghost use Rattle.vortex_rewrite.specs.Answers.{Makes};
 ghost use Rattle.vortex_normal.specs.Ends as ends;
 ghost use Rattle.vortex_normal.specs.Intervals.{place_at};
 
-use crate::predicate::Predicate;
 use crate::tests_of::compared;
 use std::alloc::Global;
 use std::cmp::Ordering;
@@ -22,6 +21,7 @@ use vortex_expr::bound_expression::BoundExpression;
 use vortex_expr::bound_expression::parts::Parts;
 use vortex_expr::scalar_fn::Operator;
 use vortex_rewrite::built::built;
+use vortex_rewrite::predicate::Predicate;
 use vortex_stats::error::StatsError;
 
 fn is_least_number(number: PValue) -> bool

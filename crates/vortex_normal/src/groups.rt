@@ -12,7 +12,6 @@ ghost use Rattle.vortex_normal.specs.Separate.{are_of_separate, is_of_separate};
 use crate::balanced::balanced;
 use crate::interval::{Cut, Interval, comparison_set, one, swapped};
 use crate::leaves::connected;
-use crate::predicate::Predicate;
 use crate::ranges::combined;
 use crate::tests_of::values_test;
 use std::alloc::Global;
@@ -22,6 +21,7 @@ use vortex_base::scalar::Scalar;
 use vortex_expr::bound_expression::BoundExpression;
 use vortex_expr::bound_expression::parts::Parts;
 use vortex_expr::scalar_fn::Operator;
+use vortex_rewrite::predicate::Predicate;
 use vortex_stats::error::StatsError;
 
 /// The column at a place, of a type, is null where that counts, or has a value in sets that the

@@ -10,7 +10,6 @@ ghost use Rattle.vortex_rewrite.specs.Answers.{Makes};
 ghost use Rattle.vortex_normal.specs.Pushed as normal;
 
 use crate::ends::ended;
-use crate::predicate::Predicate;
 use std::alloc::Global;
 use vortex_base::dtype::DType;
 use vortex_base::row::Row;
@@ -23,6 +22,7 @@ use vortex_expr::bound_expression::parts::Parts;
 use vortex_expr::evaluate::evaluate;
 use vortex_expr::scalar_fn::Operator;
 use vortex_rewrite::built::{built, cloned};
+use vortex_rewrite::predicate::Predicate;
 use vortex_stats::error::StatsError;
 
 /// The comparison that is false of two values where the given one is true; of a connective the

@@ -12,7 +12,6 @@ mod likes;
 mod links;
 mod narrowed;
 pub mod normalize;
-mod predicate;
 mod pushed;
 mod ranges;
 mod strict;

@@ -14,7 +14,6 @@ ghost use Rattle.vortex_normal.specs.Pushed as normal;
 ghost use Rattle.vortex_normal.specs.Signs.{IsBeforeSigns, ends_in_sign};
 
 use crate::leaves::{comparison, connected, is_null_literal, operator_as, settled};
-use crate::predicate::Predicate;
 use std::alloc::Global;
 use vortex_base::dtype::DType;
 use vortex_base::scalar::Scalar;
@@ -27,6 +26,7 @@ use vortex_expr::like::LikeOptions;
 use vortex_expr::like_pattern::{LikePattern, successor};
 use vortex_expr::scalar_fn::Operator;
 use vortex_rewrite::built::built;
+use vortex_rewrite::predicate::Predicate;
 use vortex_stats::error::StatsError;
 
 fn utf8_literal(alloc: Global, text: Text) -> Result<BoundExpression, StatsError>

@@ -10,13 +10,13 @@ ghost use Rattle.vortex_normal.specs.Links.{link_of};
 use crate::balanced::balanced;
 use crate::interval::swapped;
 use crate::leaves::is_reflexive;
-use crate::predicate::Predicate;
 use std::alloc::Global;
 use vortex_base::dtype::DType;
 use vortex_expr::bound_expression::BoundExpression;
 use vortex_expr::bound_expression::parts::Parts;
 use vortex_expr::scalar_fn::Operator;
 use vortex_rewrite::built::cloned;
+use vortex_rewrite::predicate::Predicate;
 use vortex_stats::error::StatsError;
 
 // Each comparison of columns is two links. Their number is limited since each is tried with each.

@@ -7,13 +7,13 @@ ghost use Rattle.vortex_normal.specs.Narrowed as spec;
 
 use crate::groups::grouped;
 use crate::links::linked;
-use crate::predicate::Predicate;
 use crate::pushed::pushed;
 use crate::strict::{column_beside, range_column};
 use std::alloc::Global;
 use vortex_expr::bound_expression::BoundExpression;
 use vortex_expr::bound_expression::parts::Parts;
 use vortex_expr::scalar_fn::Operator;
+use vortex_rewrite::predicate::Predicate;
 use vortex_stats::error::StatsError;
 
 // How many facts are used below an OR: each leaf there looks through them.

@@ -11,12 +11,12 @@ ghost use Rattle.vortex_normal.specs.Tested.{IsTestOf};
 
 use crate::groups::grouped;
 use crate::narrowed;
-use crate::predicate::is_truth;
 use crate::pushed::pushed;
 use crate::strict::with_values;
 use crate::tested::tested;
 use std::alloc::Global;
 use vortex_expr::bound_expression::BoundExpression;
+use vortex_rewrite::predicate::is_truth;
 use vortex_stats::error::StatsError;
 
 fn normal_form(alloc: Global, predicate: &BoundExpression) -> Result<BoundExpression, StatsError>

@@ -11,7 +11,6 @@ ghost use Rattle.vortex_normal.specs.Pushed as normal;
 
 use crate::leaves::{comparison, connected, null_test, operator_as};
 use crate::likes::{like_as, liked};
-use crate::predicate::{Predicate, truth_literal};
 use std::alloc::Global;
 use vortex_base::scalar::Scalar;
 use vortex_base::scalar_value::ScalarValue;
@@ -19,6 +18,7 @@ use vortex_expr::bound_expression::BoundExpression;
 use vortex_expr::bound_expression::parts::Parts;
 use vortex_expr::scalar_fn::{BetweenOptions, Operator};
 use vortex_rewrite::built::cloned;
+use vortex_rewrite::predicate::{Predicate, truth_literal};
 use vortex_stats::error::StatsError;
 
 // Whether a literal's truth is the wanted one.

@@ -5,11 +5,11 @@ ghost use Rattle.vortex_rewrite.specs.Rewriting.Predicates.{is_connective, is_pr
 ghost use Rattle.vortex_normal.specs.LeafColumns as leaf;
 ghost use Rattle.vortex_normal.specs.Strict as forms;
 
-use crate::predicate::Predicate;
 use std::alloc::Global;
 use vortex_expr::bound_expression::BoundExpression;
 use vortex_expr::bound_expression::parts::Parts;
 use vortex_expr::scalar_fn::Operator;
+use vortex_rewrite::predicate::Predicate;
 use vortex_stats::error::StatsError;
 
 /// Returns the column that is compared with a literal, if it is one.

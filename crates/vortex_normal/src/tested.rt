@@ -9,13 +9,13 @@ ghost use Rattle.vortex_normal.specs.Pushed as normal;
 ghost use Rattle.vortex_normal.specs.Tested as tests;
 
 use crate::interval::swapped;
-use crate::predicate::{Predicate, is_truth};
 use std::alloc::Global;
 use vortex_base::scalar_value::ScalarValue;
 use vortex_expr::bound_expression::BoundExpression;
 use vortex_expr::bound_expression::parts::Parts;
 use vortex_expr::scalar_fn::{BetweenOptions, Operator};
 use vortex_rewrite::built::cloned;
+use vortex_rewrite::predicate::{Predicate, is_truth};
 use vortex_stats::error::StatsError;
 
 fn is_compound(e: &BoundExpression) -> bool

@@ -10,7 +10,6 @@ ghost use Rattle.vortex_normal.specs.Groups.{cut_fits, interval_fits, set_fits};
 
 use crate::balanced::balanced;
 use crate::interval::{Cut, Interval, is_at_most};
-use crate::predicate::Predicate;
 use std::alloc::Global;
 use vortex_base::dtype::DType;
 use vortex_base::scalar::Scalar;
@@ -19,6 +18,7 @@ use vortex_expr::bound;
 use vortex_expr::bound_expression::BoundExpression;
 use vortex_expr::scalar_fn::{BetweenOptions, Operator, StrictComparison};
 use vortex_rewrite::built::built;
+use vortex_rewrite::predicate::Predicate;
 use vortex_stats::error::StatsError;
 
 fn literal_as(

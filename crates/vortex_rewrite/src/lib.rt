@@ -5,6 +5,7 @@ pub mod built;
 pub mod expr;
 pub mod hook_fault;
 pub mod laws;
+pub mod predicate;
 pub mod rewrite;
 
 pub use hook_fault::HookFault;

@@ -11,15 +11,14 @@ ghost use Rattle.vortex_rewrite.specs.Rewriting.Visited.{visited};
 mod builtins;
 mod engine;
 pub(crate) mod nodes;
-pub(crate) mod proof;
 mod reduce;
 pub mod rule;
 pub mod rules;
 mod side;
 mod user_rules;
 
+use crate::predicate::{Predicate, is_truth};
 use crate::rewrite::engine::rewrite_node;
-use crate::rewrite::proof::{Proof, is_truth};
 use crate::rewrite::rule::StatsRewriteRule;
 use crate::rewrite::rules::Rules;
 use crate::rewrite::side::Side;
@@ -27,7 +26,7 @@ use std::alloc::Global;
 use vortex_expr::bound_expression::BoundExpression;
 use vortex_stats::error::StatsError;
 
-fn into_expression(proof: Option<Proof>) -> Option<BoundExpression>
+fn into_expression(proof: Option<Predicate>) -> Option<BoundExpression>
     ensures value { result ≡ proof }
     ensures truth { IfSome result (λ e. IsTrue (is_predicate e)) }
 {
@@ -46,12 +45,10 @@ pub fn falsify(
     rules: &Rules,
 ) -> Result<Option<BoundExpression>, StatsError>
     ensures not_predicate { is_predicate predicate.now ≡ false → result ≡ Err NotPredicate }
-    ensures answer { let own =
-        own_rules ⟦<dyn StatsRewriteRule as StatsRewriteRule>⟧ rules.now.own.items in
+    ensures answer { let own = own_rules StatsRewriteRule-box rules.now.own.items in
         IfOk result (λ proof. proof ≡ falsifier_of own predicate.now) }
     ensures truth { IfOk result (λ proof. IfSome proof (λ e. IsTrue (is_predicate e))) }
-    ensures refusal { let own =
-        own_rules ⟦<dyn StatsRewriteRule as StatsRewriteRule>⟧ rules.now.own.items in
+    ensures refusal { let own = own_rules StatsRewriteRule-box rules.now.own.items in
         IsTrue (is_predicate predicate.now) → IfErr result (IsRefusal
         (rule_causes (λ rule. rule.falsifier) own (visited predicate.now))) }
 {
@@ -67,13 +64,11 @@ pub fn falsify_counted(
     rules: &Rules,
 ) -> Result<(Option<BoundExpression>, u64), StatsError>
     ensures not_predicate { is_predicate predicate.now ≡ false → result ≡ Err NotPredicate }
-    ensures answer { let own =
-        own_rules ⟦<dyn StatsRewriteRule as StatsRewriteRule>⟧ rules.now.own.items in
+    ensures answer { let own = own_rules StatsRewriteRule-box rules.now.own.items in
         IfOk result (λ r. r.0 ≡ falsifier_of own predicate.now) }
     ensures visits { IfOk result (λ r. r.1 ≡ min (visits_of predicate.now) (2 ^ 64 - 1)) }
     ensures truth { IfOk result (λ r. IfSome r.0 (λ e. IsTrue (is_predicate e))) }
-    ensures refusal { let own =
-        own_rules ⟦<dyn StatsRewriteRule as StatsRewriteRule>⟧ rules.now.own.items in
+    ensures refusal { let own = own_rules StatsRewriteRule-box rules.now.own.items in
         IsTrue (is_predicate predicate.now) → IfErr result (IsRefusal
         (rule_causes (λ rule. rule.falsifier) own (visited predicate.now))) }
 {
@@ -93,12 +88,10 @@ pub fn satisfy(
     rules: &Rules,
 ) -> Result<Option<BoundExpression>, StatsError>
     ensures not_predicate { is_predicate predicate.now ≡ false → result ≡ Err NotPredicate }
-    ensures answer { let own =
-        own_rules ⟦<dyn StatsRewriteRule as StatsRewriteRule>⟧ rules.now.own.items in
+    ensures answer { let own = own_rules StatsRewriteRule-box rules.now.own.items in
         IfOk result (λ proof. proof ≡ satisfier_of own predicate.now) }
     ensures truth { IfOk result (λ proof. IfSome proof (λ e. IsTrue (is_predicate e))) }
-    ensures refusal { let own =
-        own_rules ⟦<dyn StatsRewriteRule as StatsRewriteRule>⟧ rules.now.own.items in
+    ensures refusal { let own = own_rules StatsRewriteRule-box rules.now.own.items in
         IsTrue (is_predicate predicate.now) → IfErr result (IsRefusal
         (rule_causes (λ rule. rule.satisfier) own (visited predicate.now))) }
 {

@@ -37,7 +37,7 @@ asked_of_both p (x ∷ xs) ys h k =
     both_false true b h k = cc
     both_false false b h k = k
 
-module _ {I : Type 0} {D : I → Type 0} (M : (i : I) → Ghosts (D i)) (p : Tree Place) where
+module _ {I : Type 0} {D : I → Type 0} (M : (b : DynBox I Global D) → Ghosts (D b.vtable)) (p : Tree Place) where
   -- a rule more that isn't asked
   pub unasked_more : (bs : List (DynBox I Global D)) (i : ℕ) (b : DynBox I Global D) → i < length bs → b ≡ get_or bs i b → is_asked (own_rules M (take i bs)) p ≡ false
       → is_function (scalar_fn_of p) (own_rule M b).id ≡ false → is_asked (own_rules M (take (i + 1) bs)) p ≡ false
@@ -58,7 +58,7 @@ module _ {I : Type 0} {D : I → Type 0} (M : (i : I) → Ghosts (D i)) (p : Tre
   pub asked_in : (bs cs : List (DynBox I Global D)) (i : ℕ) (b : DynBox I Global D) → i < length bs → b ≡ get_or bs i b → bs ≡ cs → is_function (scalar_fn_of p) (own_rule M b).id ≡ true → true ≡ is_asked (own_rules M cs) p
   asked_in bs cs i b h is same k = sym (ap (λ xs. is_asked (own_rules M xs) p) (sym same) ∙ asked_at bs i b h (ap (λ c. is_function (scalar_fn_of p) (own_rule M c).id) (sym is) ∙ k))
 
-module _ {I : Type 0} {D : I → Type 0} (M : (i : I) → Ghosts (D i)) (prove : OwnRule → Tree Place → Option (Tree Place)) where
+module _ {I : Type 0} {D : I → Type 0} (M : (b : DynBox I Global D) → Ghosts (D b.vtable)) (prove : OwnRule → Tree Place → Option (Tree Place)) where
   pub own_more : (p : Tree Place) (bs : List (DynBox I Global D)) (i : ℕ) (b : DynBox I Global D) (olds news step : List (Tree Place)) → i < length bs → b ≡ get_or bs i b
       → news ≡ olds ++ own_proofs prove (own_rules M (take i bs)) p → step ≡ option_to_list (asked prove p (own_rule M b)) → news ++ step ≡ olds ++ own_proofs prove (own_rules M (take (i + 1) bs)) p
   own_more p bs i b olds news step h is e s =

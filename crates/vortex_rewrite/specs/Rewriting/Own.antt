@@ -5,14 +5,14 @@ use Rattle.std.specs.declared.dyn_box.DynBox.{DynBox}
 use Rattle.vortex_rewrite.specs.Rewriting.Lawful.{OwnRule}
 use Rattle.vortex_rewrite.specs.declared.rewrite.rule.StatsRewriteRule.{Ghosts}
 
-abbrev pub own_rule : {I : Type 0} {D : I → Type 0} → ((i : I) → Ghosts (D i)) → DynBox I Global D → OwnRule
+abbrev pub own_rule : {I : Type 0} {D : I → Type 0} → ((b : DynBox I Global D) → Ghosts (D b.vtable)) → DynBox I Global D → OwnRule
 own_rule M b = record {
-  id = (M b.vtable).id b.value;
-  falsifier = (M b.vtable).falsifier b.value;
-  satisfier = (M b.vtable).satisfier b.value;
-  can_fault = (M b.vtable).can_fault b.value;
-  is_lawful = (M b.vtable).is_lawful b.value;
+  id = (M b).id b.value;
+  falsifier = (M b).falsifier b.value;
+  satisfier = (M b).satisfier b.value;
+  can_fault = (M b).can_fault b.value;
+  is_lawful = (M b).is_lawful b.value;
 }
 
-abbrev pub own_rules : {I : Type 0} {D : I → Type 0} → ((i : I) → Ghosts (D i)) → List (DynBox I Global D) → List OwnRule
+abbrev pub own_rules : {I : Type 0} {D : I → Type 0} → ((b : DynBox I Global D) → Ghosts (D b.vtable)) → List (DynBox I Global D) → List OwnRule
 own_rules M bs = map (own_rule M) bs

@@ -8,10 +8,10 @@ pub(crate) mod between;
 pub(crate) mod comparison;
 mod like;
 
+use crate::predicate::Predicate;
 use crate::rewrite::builtins::comparison::{both_joined, either_joined};
 use crate::rewrite::builtins::like::like_proof;
 use crate::rewrite::nodes::{count_literal, null_count, row_count};
-use crate::rewrite::proof::Proof;
 use crate::rewrite::side::Side;
 use std::alloc::Global;
 use vortex_base::aggregate::AggregateFnRef;
@@ -23,15 +23,15 @@ use vortex_expr::scalar_fn::Operator;
 use vortex_stats::error::StatsError;
 
 // The built-in proofs of one node, which are two at the most.
-pub(crate) type BuiltIn = (Option<Proof>, Option<Proof>);
+pub(crate) type BuiltIn = (Option<Predicate>, Option<Predicate>);
 
 // A proof of AND by the proofs of its sides: it is falsified by either, and satisfied by both.
 pub(crate) fn and_proof(
     alloc: Global,
     side: Side,
-    left: Option<Proof>,
-    right: Option<Proof>,
-) -> Result<Option<Proof>, StatsError>
+    left: Option<Predicate>,
+    right: Option<Predicate>,
+) -> Result<Option<Predicate>, StatsError>
     ensures { Makes (and_proof_of side left right) result }
 {
     match side {
@@ -44,9 +44,9 @@ pub(crate) fn and_proof(
 pub(crate) fn or_proof(
     alloc: Global,
     side: Side,
-    left: Option<Proof>,
-    right: Option<Proof>,
-) -> Result<Option<Proof>, StatsError>
+    left: Option<Predicate>,
+    right: Option<Predicate>,
+) -> Result<Option<Predicate>, StatsError>
     ensures { Makes (or_proof_of side left right) result }
 {
     match side {
@@ -56,31 +56,31 @@ pub(crate) fn or_proof(
 }
 
 // The proof of a BETWEEN whose ends leave no value between: no row satisfies it.
-pub(crate) fn empty_proof(alloc: Global, side: Side) -> Result<Option<Proof>, StatsError>
+pub(crate) fn empty_proof(alloc: Global, side: Side) -> Result<Option<Predicate>, StatsError>
     ensures { Makes (empty_proof_of side) result }
 {
     match side {
-        Side::Falsify => Ok(Some(Proof::truth(alloc, true)?)),
+        Side::Falsify => Ok(Some(Predicate::truth(alloc, true)?)),
         Side::Satisfy => Ok(None),
     }
 }
 
 // Proves that no row satisfies a literal.
-fn literal_falsifier(alloc: Global, value: &Scalar) -> Result<Option<Proof>, StatsError>
+fn literal_falsifier(alloc: Global, value: &Scalar) -> Result<Option<Predicate>, StatsError>
     ensures { Makes (literal_falsifier value.now.value) result }
 {
     match value.value() {
-        Some(ScalarValue::Bool(truth)) => Ok(Some(Proof::truth(alloc, !*truth)?)),
+        Some(ScalarValue::Bool(truth)) => Ok(Some(Predicate::truth(alloc, !*truth)?)),
         _ => Ok(None),
     }
 }
 
 // Proves that every row satisfies a literal.
-fn literal_satisfier(alloc: Global, value: &Scalar) -> Result<Option<Proof>, StatsError>
+fn literal_satisfier(alloc: Global, value: &Scalar) -> Result<Option<Predicate>, StatsError>
     ensures { Makes (literal_satisfier value.now.value) result }
 {
     match value.value() {
-        Some(ScalarValue::Bool(truth)) => Ok(Some(Proof::truth(alloc, *truth)?)),
+        Some(ScalarValue::Bool(truth)) => Ok(Some(Predicate::truth(alloc, *truth)?)),
         _ => Ok(None),
     }
 }
@@ -93,8 +93,8 @@ fn none_null(alloc: Global, x: &BoundExpression) -> Result<BuiltIn, StatsError>
     let _typed = x.dtype();
     let count = null_count(alloc, x)?;
     let zero = count_literal(alloc, 0)?;
-    let by_count = Proof::binary(alloc, Operator::Eq, count, zero)?;
-    let by_test = Proof::stat(alloc, AggregateFnRef::AllNonNull, x)?;
+    let by_count = Predicate::binary(alloc, Operator::Eq, count, zero)?;
+    let by_test = Predicate::stat(alloc, AggregateFnRef::AllNonNull, x)?;
     Ok((Some(by_count), Some(by_test)))
 }
 
@@ -106,8 +106,8 @@ fn every_null(alloc: Global, x: &BoundExpression) -> Result<BuiltIn, StatsError>
     let _typed = x.dtype();
     let count = null_count(alloc, x)?;
     let rows = row_count(alloc)?;
-    let by_count = Proof::binary(alloc, Operator::Eq, count, rows)?;
-    let by_test = Proof::stat(alloc, AggregateFnRef::AllNull, x)?;
+    let by_count = Predicate::binary(alloc, Operator::Eq, count, rows)?;
+    let by_test = Predicate::stat(alloc, AggregateFnRef::AllNull, x)?;
     Ok((Some(by_count), Some(by_test)))
 }
 

@@ -12,10 +12,10 @@ ghost use Rattle.vortex_rewrite.specs.Rewriting.Visited.{visited};
 ghost use Rattle.vortex_rewrite.specs.Answers.{Makes};
 
 use crate::built::cloned;
+use crate::predicate::{Predicate, push_some};
 use crate::rewrite::builtins::between::ends;
 use crate::rewrite::builtins::comparison::{comparison_proof, either_joined};
 use crate::rewrite::builtins::{BuiltIn, and_proof, empty_proof, or_proof, table_proofs};
-use crate::rewrite::proof::{Proof, push_some};
 use crate::rewrite::reduce::reduce_balanced;
 use crate::rewrite::rule::StatsRewriteRule;
 use crate::rewrite::rules::Rules;
@@ -35,12 +35,10 @@ fn node(
     rules: &Rules,
     e: &BoundExpression,
     built_in: BuiltIn,
-) -> Result<Option<Proof>, StatsError>
-    ensures answer { let own =
-        own_rules ⟦<dyn StatsRewriteRule as StatsRewriteRule>⟧ rules.now.own.items in
+) -> Result<Option<Predicate>, StatsError>
+    ensures answer { let own = own_rules StatsRewriteRule-box rules.now.own.items in
         IfOk result (λ o. o ≡ proved side own e.now (listed built_in.0 built_in.1)) }
-    ensures refusal { let own =
-        own_rules ⟦<dyn StatsRewriteRule as StatsRewriteRule>⟧ rules.now.own.items in
+    ensures refusal { let own = own_rules StatsRewriteRule-box rules.now.own.items in
         IfErr result (IsRefusal (rule_causes (proof_of side) own (e.now ∷ []))) }
 {
     if !is_asked(rules, e) {
@@ -64,19 +62,19 @@ fn both_halves(
     requires { IsOk (type_of (tree.between options x.now lower.now upper.now)) }
     ensures { Makes (halves_of options x.now lower.now upper.now) result }
 {
-    let low = Proof::binary(
+    let low = Predicate::binary(
         alloc,
         options.lower_strict.to_operator(),
         cloned(lower)?,
         cloned(x)?,
     )?;
-    let high = Proof::binary(
+    let high = Predicate::binary(
         alloc,
         options.upper_strict.to_operator(),
         cloned(x)?,
         cloned(upper)?,
     )?;
-    Ok(Proof::connect(alloc, Operator::And, low, high)?.into_expression())
+    Ok(Predicate::connect(alloc, Operator::And, low, high)?.into_expression())
 }
 
 // The AND of the two comparisons that a BETWEEN stands for, at its moved ends; none, if its ends
@@ -108,14 +106,12 @@ pub(crate) fn rewrite_node(
     rules: &Rules,
     e: &BoundExpression,
     visits: &mut u64,
-) -> Result<Option<Proof>, StatsError>
-    ensures answer { let own =
-        own_rules ⟦<dyn StatsRewriteRule as StatsRewriteRule>⟧ rules.now.own.items in
+) -> Result<Option<Predicate>, StatsError>
+    ensures answer { let own = own_rules StatsRewriteRule-box rules.now.own.items in
         IfOk result (λ o. o ≡ rewriting side own e.now) }
     ensures visits { IfOk result (λ _.
         visits.new ≡ min (visits.old + visits_of e.now) (2 ^ 64 - 1)) }
-    ensures refusal { let own =
-        own_rules ⟦<dyn StatsRewriteRule as StatsRewriteRule>⟧ rules.now.own.items in
+    ensures refusal { let own = own_rules StatsRewriteRule-box rules.now.own.items in
         IfErr result (IsRefusal (rule_causes (proof_of side) own (visited e.now))) }
 {
     *visits = visits.saturating_add(1);

@@ -9,7 +9,7 @@ ghost use Rattle.vortex_rewrite.specs.Rewriting.RuleRefusals.{rule_causes};
 ghost use Rattle.vortex_rewrite.specs.Rewriting.Sides.{proof_of};
 
 use crate::hook_fault::HookFault;
-use crate::rewrite::proof::{Proof, push_some};
+use crate::predicate::{Predicate, push_some};
 use crate::rewrite::rule::StatsRewriteRule;
 use crate::rewrite::rules::Rules;
 use crate::rewrite::side::Side;
@@ -19,7 +19,7 @@ use vortex_expr::scalar_fn::ScalarFnId;
 use vortex_stats::error::{RuleFault, StatsError};
 
 fn id_of(rule: &Box<dyn StatsRewriteRule>) -> ScalarFnId
-    ensures { result ≡ (own_rule ⟦<dyn StatsRewriteRule as StatsRewriteRule>⟧ rule.now).id }
+    ensures { result ≡ (own_rule StatsRewriteRule-box rule.now).id }
 {
     rule.scalar_fn_id()
 }
@@ -30,7 +30,7 @@ fn ask_side(
     rule: &Box<dyn StatsRewriteRule>,
     e: &BoundExpression,
 ) -> Result<Option<BoundExpression>, HookFault>
-    ensures { let own = own_rule ⟦<dyn StatsRewriteRule as StatsRewriteRule>⟧ rule.now in
+    ensures { let own = own_rule StatsRewriteRule-box rule.now in
         MatchResult result (λ o. o ≡ proof_of side own e.now) (IsHookFault own.can_fault) }
 {
     match side {
@@ -41,7 +41,7 @@ fn ask_side(
 
 fn is_for(rule: &Box<dyn StatsRewriteRule>, e: &BoundExpression) -> bool
     ensures { result ≡ is_function (scalar_fn_of e.now)
-        (own_rule ⟦<dyn StatsRewriteRule as StatsRewriteRule>⟧ rule.now).id }
+        (own_rule StatsRewriteRule-box rule.now).id }
 {
     match e.scalar_fn_id() {
         Some(function) => function == id_of(rule),
@@ -51,8 +51,7 @@ fn is_for(rule: &Box<dyn StatsRewriteRule>, e: &BoundExpression) -> bool
 
 // Whether some rule of the user is one for an expression's function.
 pub(crate) fn is_asked(rules: &Rules, e: &BoundExpression) -> bool
-    ensures { let own =
-        own_rules ⟦<dyn StatsRewriteRule as StatsRewriteRule>⟧ rules.now.own.items in
+    ensures { let own = own_rules StatsRewriteRule-box rules.now.own.items in
         result ≡ is_some_asked own e.now }
 {
     for rule in &rules.own {
@@ -69,8 +68,8 @@ fn ask_rule(
     side: Side,
     rule: &Box<dyn StatsRewriteRule>,
     e: &BoundExpression,
-) -> Result<Option<Proof>, StatsError>
-    ensures { let own = own_rule ⟦<dyn StatsRewriteRule as StatsRewriteRule>⟧ rule.now in
+) -> Result<Option<Predicate>, StatsError>
+    ensures { let own = own_rule StatsRewriteRule-box rule.now in
         MatchResult result (λ o. o ≡ asked (proof_of side) e.now own)
         (IsRefusal (rule_causes (proof_of side) (own ∷ []) (e.now ∷ []))) }
 {
@@ -79,7 +78,7 @@ fn ask_rule(
     }
     match ask_side(alloc, side, rule, e) {
         Ok(None) => Ok(None),
-        Ok(Some(proof)) => match Proof::try_new(proof) {
+        Ok(Some(proof)) => match Predicate::try_new(proof) {
             Some(proof) => Ok(Some(proof)),
             None => Err(StatsError::Rule(RuleFault::NotBool)),
         },
@@ -94,14 +93,12 @@ pub(crate) fn ask_own(
     side: Side,
     rules: &Rules,
     e: &BoundExpression,
-    proofs: &mut Vec<Proof>,
+    proofs: &mut Vec<Predicate>,
 ) -> Result<(), StatsError>
-    ensures proofs { let own =
-        own_rules ⟦<dyn StatsRewriteRule as StatsRewriteRule>⟧ rules.now.own.items in
+    ensures proofs { let own = own_rules StatsRewriteRule-box rules.now.own.items in
         IfOk result (λ _.
         proofs.new.items ≡ proofs.old.items ++ own_proofs (proof_of side) own e.now) }
-    ensures refusal { let own =
-        own_rules ⟦<dyn StatsRewriteRule as StatsRewriteRule>⟧ rules.now.own.items in
+    ensures refusal { let own = own_rules StatsRewriteRule-box rules.now.own.items in
         IfErr result (IsRefusal (rule_causes (proof_of side) own (e.now ∷ []))) }
 {
     for rule in &rules.own {

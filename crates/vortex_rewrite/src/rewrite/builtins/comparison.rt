@@ -8,8 +8,8 @@ ghost use Rattle.vortex_rewrite.specs.Rewriting.Falsifiers.{both_of, comparison_
 ghost use Rattle.vortex_rewrite.specs.Answers.{Makes};
 
 use crate::built::cloned;
+use crate::predicate::Predicate;
 use crate::rewrite::nodes::stat;
-use crate::rewrite::proof::Proof;
 use crate::rewrite::side::Side;
 use std::alloc::Global;
 use vortex_base::aggregate::AggregateFnRef;
@@ -50,7 +50,7 @@ pub(crate) fn compared(
     operator: Operator,
     left: (AggregateFnRef, &BoundExpression),
     right: (AggregateFnRef, &BoundExpression),
-) -> Result<Option<Proof>, StatsError>
+) -> Result<Option<Predicate>, StatsError>
     requires comparison { is_connective operator ≡ false }
     requires left_extreme { IsTrue (is_extreme left.0) }
     requires right_extreme { IsTrue (is_extreme right.0) }
@@ -62,7 +62,7 @@ pub(crate) fn compared(
     let low = extreme(alloc, left.0, left.1)?;
     let high = extreme(alloc, right.0, right.1)?;
     match (low, high) {
-        (Some(low), Some(high)) => Ok(Some(Proof::binary(alloc, operator, low, high)?)),
+        (Some(low), Some(high)) => Ok(Some(Predicate::binary(alloc, operator, low, high)?)),
         _ => Ok(None),
     }
 }
@@ -71,14 +71,14 @@ pub(crate) fn compared(
 pub(crate) fn both_joined(
     alloc: Global,
     connective: Operator,
-    left: Option<Proof>,
-    right: Option<Proof>,
-) -> Result<Option<Proof>, StatsError>
+    left: Option<Predicate>,
+    right: Option<Predicate>,
+) -> Result<Option<Predicate>, StatsError>
     requires { IsTrue (is_connective connective) }
     ensures { Makes (both_of (tree.binary connective) left right) result }
 {
     match (left, right) {
-        (Some(left), Some(right)) => Ok(Some(Proof::connect(alloc, connective, left, right)?)),
+        (Some(left), Some(right)) => Ok(Some(Predicate::connect(alloc, connective, left, right)?)),
         _ => Ok(None),
     }
 }
@@ -87,14 +87,14 @@ pub(crate) fn both_joined(
 pub(crate) fn either_joined(
     alloc: Global,
     connective: Operator,
-    left: Option<Proof>,
-    right: Option<Proof>,
-) -> Result<Option<Proof>, StatsError>
+    left: Option<Predicate>,
+    right: Option<Predicate>,
+) -> Result<Option<Predicate>, StatsError>
     requires { IsTrue (is_connective connective) }
     ensures { Makes (either_of (tree.binary connective) left right) result }
 {
     match (left, right) {
-        (Some(left), Some(right)) => Ok(Some(Proof::connect(alloc, connective, left, right)?)),
+        (Some(left), Some(right)) => Ok(Some(Predicate::connect(alloc, connective, left, right)?)),
         (Some(left), None) => Ok(Some(left)),
         (None, right) => Ok(right),
     }
@@ -106,7 +106,7 @@ fn comparison_falsifier(
     operator: Operator,
     left: &BoundExpression,
     right: &BoundExpression,
-) -> Result<Option<Proof>, StatsError>
+) -> Result<Option<Predicate>, StatsError>
     requires { IsOk (type_of (tree.binary operator left.now right.now)) }
     ensures { Makes (comparison_falsifier operator left.now right.now) result }
 {
@@ -147,14 +147,18 @@ fn opposite(operator: Operator) -> Operator
 }
 
 // A proof, and that no value of an operand is null; a literal isn't asked.
-fn without_nulls(alloc: Global, x: &BoundExpression, proof: Proof) -> Result<Proof, StatsError>
+fn without_nulls(
+    alloc: Global,
+    x: &BoundExpression,
+    proof: Predicate,
+) -> Result<Predicate, StatsError>
     ensures { Makes (without_nulls_of x.now proof) result }
 {
     match x.literal() {
         Some(_) => Ok(proof),
         None => {
-            let every_value = Proof::stat(alloc, AggregateFnRef::AllNonNull, x)?;
-            Proof::connect(alloc, Operator::And, proof, every_value)
+            let every_value = Predicate::stat(alloc, AggregateFnRef::AllNonNull, x)?;
+            Predicate::connect(alloc, Operator::And, proof, every_value)
         }
     }
 }
@@ -166,7 +170,7 @@ fn comparison_satisfier(
     operator: Operator,
     left: &BoundExpression,
     right: &BoundExpression,
-) -> Result<Option<Proof>, StatsError>
+) -> Result<Option<Predicate>, StatsError>
     requires { IsOk (type_of (tree.binary operator left.now right.now)) }
     ensures { Makes (comparison_satisfier operator left.now right.now) result }
 {
@@ -186,7 +190,7 @@ pub(crate) fn comparison_proof(
     operator: Operator,
     left: &BoundExpression,
     right: &BoundExpression,
-) -> Result<Option<Proof>, StatsError>
+) -> Result<Option<Predicate>, StatsError>
     requires { IsOk (type_of (tree.binary operator left.now right.now)) }
     ensures { Makes (comparison_proof_of side operator left.now right.now) result }
 {

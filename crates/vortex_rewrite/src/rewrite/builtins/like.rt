@@ -7,9 +7,9 @@ ghost use Rattle.vortex_rewrite.specs.Rewriting.Falsifiers.{beyond as beyond_of,
 ghost use Rattle.vortex_rewrite.specs.Answers.{Makes};
 
 use crate::built::built;
+use crate::predicate::Predicate;
 use crate::rewrite::builtins::comparison::{both_joined, compared};
 use crate::rewrite::nodes::text_literal;
-use crate::rewrite::proof::Proof;
 use std::alloc::Global;
 use vortex_base::aggregate::AggregateFnRef;
 use vortex_base::scalar_value::ScalarValue;
@@ -36,7 +36,7 @@ fn beyond(
     operator: Operator,
     above: &str,
     below: &str,
-) -> Result<Option<Proof>, StatsError>
+) -> Result<Option<Predicate>, StatsError>
     requires text { IsTrue (is_text x.now) }
     requires comparison { is_connective operator ≡ false }
     ensures { Makes (beyond_of x.now operator above.now below.now) result }
@@ -55,7 +55,7 @@ fn pattern_proof(
     alloc: Global,
     x: &BoundExpression,
     pattern: &str,
-) -> Result<Option<Proof>, StatsError>
+) -> Result<Option<Predicate>, StatsError>
     requires { IsTrue (is_text x.now) }
     ensures { Makes (text_falsifier x.now (Some pattern.now)) result }
 {
@@ -76,7 +76,7 @@ pub(crate) fn like_proof(
     options: LikeOptions,
     text: &BoundExpression,
     pattern: &BoundExpression,
-) -> Result<Option<Proof>, StatsError>
+) -> Result<Option<Predicate>, StatsError>
     requires { IsOk (type_of (tree.like options text.now pattern.now)) }
     ensures { Makes (like_falsifier options text.now pattern.now) result }
 {

@@ -1,27 +1,28 @@
-//! Expressions of type Bool.
-ghost use Rattle.std.specs.Prelude.{◌≡◌, IsOk, IsTrue};
+//! Predicates: expressions of type Bool, of which proofs and normal forms are built.
+ghost use Rattle.std.specs.Prelude.{◌≡◌, ◌++◌, false, IsOk, IsTrue, MatchOption, option_to_list};
 ghost use Rattle.vortex_expr.specs.Trees.Tree as tree;
 ghost use Rattle.vortex_expr.specs.Meanings.Typing.{type_of};
-ghost use Rattle.vortex_rewrite.specs.Answers.{Makes};
-ghost use Rattle.vortex_rewrite.specs.Rewriting.Predicates.{is_connective, is_predicate};
+ghost use Rattle.vortex_rewrite.specs.Answers.{Makes, OkOrMemory};
+ghost use Rattle.vortex_rewrite.specs.Rewriting.Predicates.{is_connective, is_predicate, is_truth_aggregate};
 ghost use Rattle.vortex_rewrite.specs.Rewriting.Falsifiers.{bool_literal};
 
+use crate::built::{built, cloned};
+use crate::rewrite::nodes::{literal, stat};
 use std::alloc::Global;
 use std::marker::Model;
+use vortex_base::aggregate::AggregateFnRef;
 use vortex_base::dtype::DType;
-use vortex_base::scalar::Scalar;
 use vortex_base::scalar_value::ScalarValue;
 use vortex_base::types::Nullability;
 use vortex_expr::bound;
 use vortex_expr::bound_expression::BoundExpression;
 use vortex_expr::like::LikeOptions;
 use vortex_expr::scalar_fn::{BetweenOptions, Operator};
-use vortex_rewrite::built::{built, cloned};
 use vortex_stats::error::StatsError;
 
 /// An expression of type Bool.
 #[derive(Drop)]
-pub(crate) struct Predicate {
+pub struct Predicate {
     expression: BoundExpression,
 }
 
@@ -42,48 +43,53 @@ impl Model for Predicate {
 }
 
 /// Whether an expression is of type Bool.
-pub(crate) fn is_truth(e: &BoundExpression) -> bool
-    ensures { result ≡ is_predicate e.now }
+pub fn is_truth(expression: &BoundExpression) -> bool
+    ensures { result ≡ is_predicate expression.now }
 {
-    matches!(e.dtype(), DType::Bool(_))
+    matches!(expression.dtype(), DType::Bool(_))
 }
 
 /// The literal of a truth.
-pub(crate) fn truth_literal(alloc: Global, truth: bool) -> Result<BoundExpression, StatsError>
+pub fn truth_literal(alloc: Global, truth: bool) -> Result<BoundExpression, StatsError>
     ensures { Makes (bool_literal truth) result }
 {
-    let dtype = DType::Bool(Nullability::NonNullable);
-    match Scalar::try_new(dtype, Some(ScalarValue::Bool(truth))) {
-        Ok(scalar) => built(bound::lit(alloc, scalar)),
-        Err(_) => unreachable!(),
-    }
+    literal(
+        alloc,
+        DType::Bool(Nullability::NonNullable),
+        ScalarValue::from(truth),
+    )
 }
 
 impl Predicate {
-    pub(crate) fn expression(&self) -> &BoundExpression
+    /// The expression, if it is of type Bool.
+    pub fn try_new(expression: BoundExpression) -> Option<Predicate>
+        ensures { MatchOption result (is_predicate expression ≡ false) (λ p. p ≡ expression) }
+    {
+        if is_truth(&expression) {
+            Some(Predicate { expression })
+        } else {
+            None
+        }
+    }
+
+    /// The expression.
+    pub fn expression(&self) -> &BoundExpression
         ensures value { result.now ≡ self.now }
         ensures truth { IsTrue (is_predicate self.now) }
     {
         &self.expression
     }
 
-    pub(crate) fn into_expression(self) -> BoundExpression
+    /// The expression itself.
+    pub fn into_expression(self) -> BoundExpression
         ensures value { result ≡ self }
         ensures truth { IsTrue (is_predicate self) }
     {
         self.expression
     }
 
-    /// A literal truth.
-    pub(crate) fn truth(alloc: Global, truth: bool) -> Result<Predicate, StatsError>
-        ensures { Makes (bool_literal truth) result }
-    {
-        let expression = truth_literal(alloc, truth)?;
-        Ok(Predicate { expression })
-    }
-
     /// Two operands that fit, compared or connected.
-    pub(crate) fn binary(
+    pub fn binary(
         alloc: Global,
         operator: Operator,
         left: BoundExpression,
@@ -97,7 +103,7 @@ impl Predicate {
     }
 
     /// Two predicates joined by AND or OR.
-    pub(crate) fn connect(
+    pub fn connect(
         alloc: Global,
         connective: Operator,
         left: Predicate,
@@ -109,8 +115,16 @@ impl Predicate {
         Predicate::binary(alloc, connective, left.expression, right.expression)
     }
 
+    /// A literal truth.
+    pub fn truth(alloc: Global, truth: bool) -> Result<Predicate, StatsError>
+        ensures { Makes (bool_literal truth) result }
+    {
+        let expression = truth_literal(alloc, truth)?;
+        Ok(Predicate { expression })
+    }
+
     /// The opposite of a predicate.
-    pub(crate) fn not(alloc: Global, x: &BoundExpression) -> Result<Predicate, StatsError>
+    pub fn not(alloc: Global, x: &BoundExpression) -> Result<Predicate, StatsError>
         requires { IsTrue (is_predicate x.now) }
         ensures { Makes (tree.not x.now) result }
     {
@@ -119,7 +133,7 @@ impl Predicate {
     }
 
     /// A copy of an expression of type Bool.
-    pub(crate) fn copied(x: &BoundExpression) -> Result<Predicate, StatsError>
+    pub fn copied(x: &BoundExpression) -> Result<Predicate, StatsError>
         requires { IsTrue (is_predicate x.now) }
         ensures { Makes x.now result }
     {
@@ -128,7 +142,7 @@ impl Predicate {
     }
 
     /// Whether an operand is null.
-    pub(crate) fn is_null(alloc: Global, x: &BoundExpression) -> Result<Predicate, StatsError>
+    pub fn is_null(alloc: Global, x: &BoundExpression) -> Result<Predicate, StatsError>
         ensures { Makes (tree.is_null x.now) result }
     {
         let _typed = x.dtype();
@@ -137,7 +151,7 @@ impl Predicate {
     }
 
     /// Whether an operand is not null.
-    pub(crate) fn is_not_null(alloc: Global, x: &BoundExpression) -> Result<Predicate, StatsError>
+    pub fn is_not_null(alloc: Global, x: &BoundExpression) -> Result<Predicate, StatsError>
         ensures { Makes (tree.is_not_null x.now) result }
     {
         let _typed = x.dtype();
@@ -146,7 +160,7 @@ impl Predicate {
     }
 
     /// Whether an operand lies between two ends.
-    pub(crate) fn between(
+    pub fn between(
         alloc: Global,
         options: BetweenOptions,
         x: BoundExpression,
@@ -161,7 +175,7 @@ impl Predicate {
     }
 
     /// Whether a text matches a pattern.
-    pub(crate) fn like(
+    pub fn like(
         alloc: Global,
         options: LikeOptions,
         text: &BoundExpression,
@@ -173,4 +187,32 @@ impl Predicate {
         let expression = built(bound::like_with(alloc, cloned(text)?, cloned(pattern)?, options))?;
         Ok(Predicate { expression })
     }
+
+    /// The placeholder for an aggregate whose state is a truth.
+    pub fn stat(
+        alloc: Global,
+        aggregate: AggregateFnRef,
+        x: &BoundExpression,
+    ) -> Result<Predicate, StatsError>
+        requires { IsTrue (is_truth_aggregate aggregate) }
+        ensures { Makes (tree.stat aggregate x.now) result }
+    {
+        // That the operand has a type, so that the aggregate supports it.
+        let _typed = x.dtype();
+        let expression = stat(alloc, aggregate, x)?;
+        Ok(Predicate { expression })
+    }
+}
+
+// Adds a predicate, if there is one.
+pub(crate) fn push_some(
+    proofs: &mut Vec<Predicate>,
+    proof: Option<Predicate>,
+) -> Result<(), StatsError>
+    ensures { OkOrMemory result (λ _. proofs.new.items ≡ proofs.old.items ++ option_to_list proof) }
+{
+    if let Some(proof) = proof {
+        proofs.push(proof)?;
+    }
+    Ok(())
 }

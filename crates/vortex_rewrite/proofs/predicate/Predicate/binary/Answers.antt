@@ -3,7 +3,7 @@ use Rattle.std.specs.Prelude.{IsTrue}
 use Rattle.vortex_expr.specs.Trees.Tree.{binary}
 use Rattle.vortex_rewrite.proofs.Rewriting.ProofTypes.{fits_or_memory, binary_is_predicate, made_is}
 use Rattle.vortex_rewrite.specs.Rewriting.Predicates.{is_predicate}
-use Rattle.vortex_normal.proofs.predicate.Predicate.binary.Goals as goal
+use Rattle.vortex_rewrite.proofs.predicate.Predicate.binary.Goals as goal
 
 pub built-requires : goal.built-requires
 built-requires c = fits_or_memory (binary c.args.operator c.args.left c.args.right) _ c.requires c.binary.ensures
