@@ -140,8 +140,7 @@ pub fn scan<B: StatBinder>(
         → AreHonest B.value parts.now binders.now
         → scan.selected.items ≡ full predicate.now parts.now) }
     // With faithful binders a part is skipped exactly if the falsifier is true of it.
-    ensures skipped { let own =
-        own_rules ⟦<dyn StatsRewriteRule as StatsRewriteRule>⟧ rules.now.own.items in
+    ensures skipped { let own = own_rules StatsRewriteRule-box rules.now.own.items in
         IfOk result (λ scan. AreFaithful B.is_faithful_over parts.now binders.now
         → scan.skipped.items ≡ skipped_parts (falsifier_of own predicate.now)
         (answered B.value parts.now binders.now)) }
@@ -154,14 +153,12 @@ pub fn scan<B: StatBinder>(
         → SkipsExactly predicate.now parts.now scan.skipped.items) }
     // Which parts are skipped and whole, which rows are selected and how many tested, where the
     // binders are faithful; and what each binder has bound.
-    ensures answered { let own =
-        own_rules ⟦<dyn StatsRewriteRule as StatsRewriteRule>⟧ rules.now.own.items in
+    ensures answered { let own = own_rules StatsRewriteRule-box rules.now.own.items in
         let f = falsifier_of own predicate.now in
         let s = satisfier_of own predicate.now in
         IfOk result (ScansByBinders B.StatBinder f s predicate.now parts.now binders.now) }
     // When each refusal comes.
-    ensures refused { let own =
-        own_rules ⟦<dyn StatsRewriteRule as StatsRewriteRule>⟧ rules.now.own.items in
+    ensures refused { let own = own_rules StatsRewriteRule-box rules.now.own.items in
         RefusesByBinders B.StatBinder own predicate.now parts.now binders.now result }
 {
     let falsifier = falsify(alloc, predicate, rules)?;

@@ -201,31 +201,30 @@ pub(crate) fn verdicts(
     predicate: &BoundExpression,
     rules: &Rules,
 ) -> Result<Vec<Verdict>, StatsError>
-    ensures rows { let M = ⟦<dyn StatsRewriteRule as StatsRewriteRule>⟧ in
-        let f = falsifier_of (own_rules M rules.now.own.items) predicate.now in
-        let s = satisfier_of (own_rules M rules.now.own.items) predicate.now in
+    ensures rows { let own = own_rules StatsRewriteRule-box rules.now.own.items in
+        let f = falsifier_of own predicate.now in
+        let s = satisfier_of own predicate.now in
         IfOk result (λ vs. AreRowVerdicts f s map.now vs.items) }
-    ensures verdicts { let M = ⟦<dyn StatsRewriteRule as StatsRewriteRule>⟧ in
-        let f = falsifier_of (own_rules M rules.now.own.items) predicate.now in
-        let s = satisfier_of (own_rules M rules.now.own.items) predicate.now in
+    ensures verdicts { let own = own_rules StatsRewriteRule-box rules.now.own.items in
+        let f = falsifier_of own predicate.now in
+        let s = satisfier_of own predicate.now in
         IfOk result (λ vs. (zones : List ZoneData) → IsMapOf zones map.now
         → vs.items ≡ zone_verdicts f s map.now.scope zones) }
     ensures long { IfOk result (λ vs. length vs.items ≡ length map.now.rows) }
     ensures predicate { IfOk result (λ _. IsTrue (is_predicate predicate.now)) }
     ensures not_predicate { is_predicate predicate.now ≡ false → result ≡ Err NotPredicate }
-    ensures closed { let M = ⟦<dyn StatsRewriteRule as StatsRewriteRule>⟧ in
-        let proof = falsifier_of (own_rules M rules.now.own.items) predicate.now in
+    ensures closed { let own = own_rules StatsRewriteRule-box rules.now.own.items in
+        let proof = falsifier_of own predicate.now in
         IfOk result (λ _. is_left_open proof map.now.rows ≡ false) }
-    ensures kept_closed { let M = ⟦<dyn StatsRewriteRule as StatsRewriteRule>⟧ in
-        let s = satisfier_of (own_rules M rules.now.own.items) predicate.now in
+    ensures kept_closed { let own = own_rules StatsRewriteRule-box rules.now.own.items in
+        let s = satisfier_of own predicate.now in
         IfOk result (λ vs. IsShutIfVerdict s vs.items) }
-    ensures refusal { let M = ⟦<dyn StatsRewriteRule as StatsRewriteRule>⟧ in
-        let own = own_rules M rules.now.own.items in
+    ensures refusal { let own = own_rules StatsRewriteRule-box rules.now.own.items in
         IsTrue (is_predicate predicate.now) → IfErr result (λ e. (zones : List ZoneData)
         → IsMapOf zones map.now
         → IsRefusal (pruning_causes own predicate.now map.now.scope zones) e) }
-    ensures at_most { let M = ⟦<dyn StatsRewriteRule as StatsRewriteRule>⟧ in
-        let causes = most_causes (own_rules M rules.now.own.items) predicate.now map.now.rows in
+    ensures at_most { let own = own_rules StatsRewriteRule-box rules.now.own.items in
+        let causes = most_causes own predicate.now map.now.rows in
         IsTrue (is_predicate predicate.now) → IfErr result (IsRefusal causes) }
 {
     let falsifier = falsify(alloc, predicate, rules)?;
@@ -362,40 +361,39 @@ fn prune_rules(
     predicate: &BoundExpression,
     rules: &Rules,
 ) -> Result<Pruned, StatsError>
-    ensures rows_skipped { let M = ⟦<dyn StatsRewriteRule as StatsRewriteRule>⟧ in
-        let f = falsifier_of (own_rules M rules.now.own.items) predicate.now in
-        let s = satisfier_of (own_rules M rules.now.own.items) predicate.now in
+    ensures rows_skipped { let own = own_rules StatsRewriteRule-box rules.now.own.items in
+        let f = falsifier_of own predicate.now in
+        let s = satisfier_of own predicate.now in
         let places = places_where is_skipped (row_verdicts f s map.now) in
         IfOk result (λ pruned. pruned.skipped.items ≡ places) }
-    ensures rows_whole { let M = ⟦<dyn StatsRewriteRule as StatsRewriteRule>⟧ in
-        let f = falsifier_of (own_rules M rules.now.own.items) predicate.now in
-        let s = satisfier_of (own_rules M rules.now.own.items) predicate.now in
+    ensures rows_whole { let own = own_rules StatsRewriteRule-box rules.now.own.items in
+        let f = falsifier_of own predicate.now in
+        let s = satisfier_of own predicate.now in
         let places = places_where is_whole (row_verdicts f s map.now) in
         IfOk result (λ pruned. pruned.whole.items ≡ places) }
-    ensures skipped { let M = ⟦<dyn StatsRewriteRule as StatsRewriteRule>⟧ in
-        let proof = falsifier_of (own_rules M rules.now.own.items) predicate.now in
+    ensures skipped { let own = own_rules StatsRewriteRule-box rules.now.own.items in
+        let proof = falsifier_of own predicate.now in
         IfOk result (λ pruned. (zones : List ZoneData) → IsMapOf zones map.now
         → pruned.skipped.items ≡ skipped_zones proof map.now.scope zones) }
-    ensures whole { let M = ⟦<dyn StatsRewriteRule as StatsRewriteRule>⟧ in
-        let f = falsifier_of (own_rules M rules.now.own.items) predicate.now in
-        let s = satisfier_of (own_rules M rules.now.own.items) predicate.now in
+    ensures whole { let own = own_rules StatsRewriteRule-box rules.now.own.items in
+        let f = falsifier_of own predicate.now in
+        let s = satisfier_of own predicate.now in
         IfOk result (λ pruned. (zones : List ZoneData) → IsMapOf zones map.now
         → pruned.whole.items ≡ whole_zones f s map.now.scope zones) }
     ensures predicate { IfOk result (λ _. IsTrue (is_predicate predicate.now)) }
     ensures not_predicate { is_predicate predicate.now ≡ false → result ≡ Err NotPredicate }
-    ensures closed { let M = ⟦<dyn StatsRewriteRule as StatsRewriteRule>⟧ in
-        let proof = falsifier_of (own_rules M rules.now.own.items) predicate.now in
+    ensures closed { let own = own_rules StatsRewriteRule-box rules.now.own.items in
+        let proof = falsifier_of own predicate.now in
         IfOk result (λ _. is_left_open proof map.now.rows ≡ false) }
-    ensures kept_closed { let M = ⟦<dyn StatsRewriteRule as StatsRewriteRule>⟧ in
-        let s = satisfier_of (own_rules M rules.now.own.items) predicate.now in
+    ensures kept_closed { let own = own_rules StatsRewriteRule-box rules.now.own.items in
+        let s = satisfier_of own predicate.now in
         IfOk result (λ pruned. IsShutIfKept pruned.skipped.items s map.now.rows) }
-    ensures refusal { let M = ⟦<dyn StatsRewriteRule as StatsRewriteRule>⟧ in
-        let own = own_rules M rules.now.own.items in
+    ensures refusal { let own = own_rules StatsRewriteRule-box rules.now.own.items in
         IsTrue (is_predicate predicate.now) → IfErr result (λ e. (zones : List ZoneData)
         → IsMapOf zones map.now
         → IsRefusal (pruning_causes own predicate.now map.now.scope zones) e) }
-    ensures at_most { let M = ⟦<dyn StatsRewriteRule as StatsRewriteRule>⟧ in
-        let causes = most_causes (own_rules M rules.now.own.items) predicate.now map.now.rows in
+    ensures at_most { let own = own_rules StatsRewriteRule-box rules.now.own.items in
+        let causes = most_causes own predicate.now map.now.rows in
         IsTrue (is_predicate predicate.now) → IfErr result (IsRefusal causes) }
 {
     let verdicts = verdicts(alloc, map, predicate, rules)?;
@@ -430,15 +428,15 @@ pub fn prune(
         pruned.whole.items) }
     // On each row of the table, whatever it was made of: its zone is skipped exactly if the
     // falsifier is true by what the row holds.
-    ensures rows_skipped { let M = ⟦<dyn StatsRewriteRule as StatsRewriteRule>⟧ in
-        let f = falsifier_of (own_rules M rules.now.own.items) predicate.now in
-        let s = satisfier_of (own_rules M rules.now.own.items) predicate.now in
+    ensures rows_skipped { let own = own_rules StatsRewriteRule-box rules.now.own.items in
+        let f = falsifier_of own predicate.now in
+        let s = satisfier_of own predicate.now in
         let places = places_where is_skipped (row_verdicts f s map.now) in
         IfOk result (λ pruned. pruned.skipped.items ≡ places) }
     // And whole exactly if it isn't skipped and the satisfier is.
-    ensures rows_whole { let M = ⟦<dyn StatsRewriteRule as StatsRewriteRule>⟧ in
-        let f = falsifier_of (own_rules M rules.now.own.items) predicate.now in
-        let s = satisfier_of (own_rules M rules.now.own.items) predicate.now in
+    ensures rows_whole { let own = own_rules StatsRewriteRule-box rules.now.own.items in
+        let f = falsifier_of own predicate.now in
+        let s = satisfier_of own predicate.now in
         let places = places_where is_whole (row_verdicts f s map.now) in
         IfOk result (λ pruned. pruned.whole.items ≡ places) }
     // Whatever rows stand in a skipped zone, if its row of the table is true of them: none
@@ -450,14 +448,14 @@ pub fn prune(
         EachRowOf true predicate.now map.now pruned.whole.items) }
     // So where the map is that of zones: one is skipped exactly if the falsifier is true by its
     // statistics.
-    ensures skipped { let M = ⟦<dyn StatsRewriteRule as StatsRewriteRule>⟧ in
-        let proof = falsifier_of (own_rules M rules.now.own.items) predicate.now in
+    ensures skipped { let own = own_rules StatsRewriteRule-box rules.now.own.items in
+        let proof = falsifier_of own predicate.now in
         IfOk result (λ pruned. (zones : List ZoneData) → IsMapOf zones map.now
         → pruned.skipped.items ≡ skipped_zones proof map.now.scope zones) }
     // And whole exactly if it isn't skipped and the satisfier is.
-    ensures whole { let M = ⟦<dyn StatsRewriteRule as StatsRewriteRule>⟧ in
-        let f = falsifier_of (own_rules M rules.now.own.items) predicate.now in
-        let s = satisfier_of (own_rules M rules.now.own.items) predicate.now in
+    ensures whole { let own = own_rules StatsRewriteRule-box rules.now.own.items in
+        let f = falsifier_of own predicate.now in
+        let s = satisfier_of own predicate.now in
         IfOk result (λ pruned. (zones : List ZoneData) → IsMapOf zones map.now
         → pruned.whole.items ≡ whole_zones f s map.now.scope zones) }
     // By built-in rules a predicate whose ANDs are apart skips a zone exactly if no values within
@@ -470,24 +468,23 @@ pub fn prune(
         → IfErr result IsMemory }
     ensures not_predicate { is_predicate predicate.now ≡ false → result ≡ Err NotPredicate }
     // No falsifier that has a column outside its placeholders was bound.
-    ensures closed { let M = ⟦<dyn StatsRewriteRule as StatsRewriteRule>⟧ in
-        let proof = falsifier_of (own_rules M rules.now.own.items) predicate.now in
+    ensures closed { let own = own_rules StatsRewriteRule-box rules.now.own.items in
+        let proof = falsifier_of own predicate.now in
         IfOk result (λ _. is_left_open proof map.now.rows ≡ false) }
     // Nor such a satisfier, for a zone that isn't skipped.
-    ensures kept_closed { let M = ⟦<dyn StatsRewriteRule as StatsRewriteRule>⟧ in
-        let s = satisfier_of (own_rules M rules.now.own.items) predicate.now in
+    ensures kept_closed { let own = own_rules StatsRewriteRule-box rules.now.own.items in
+        let s = satisfier_of own predicate.now in
         IfOk result (λ pruned. IsShutIfKept pruned.skipped.items s map.now.rows) }
     // A refusal has its cause: a rule asked at a visited node, such a falsifier and a zone, or such
     // a satisfier and a zone that isn't skipped.
-    ensures refusal { let M = ⟦<dyn StatsRewriteRule as StatsRewriteRule>⟧ in
-        let own = own_rules M rules.now.own.items in
+    ensures refusal { let own = own_rules StatsRewriteRule-box rules.now.own.items in
         IsTrue (is_predicate predicate.now) → IfErr result (λ e. (zones : List ZoneData)
         → IsMapOf zones map.now
         → IsRefusal (pruning_causes own predicate.now map.now.scope zones) e) }
     // Whatever the table was made of, it has such a rule, or such a falsifier or satisfier and a
     // zone.
-    ensures at_most { let M = ⟦<dyn StatsRewriteRule as StatsRewriteRule>⟧ in
-        let causes = most_causes (own_rules M rules.now.own.items) predicate.now map.now.rows in
+    ensures at_most { let own = own_rules StatsRewriteRule-box rules.now.own.items in
+        let causes = most_causes own predicate.now map.now.rows in
         IsTrue (is_predicate predicate.now) → IfErr result (IsRefusal causes) }
 {
     has_table(map);

@@ -134,12 +134,10 @@ pub fn scan_ranges_from(
         → ZonesSkipExactly predicate.now zones scan.skipped.items) }
     // Which zones are skipped and whole, which rows are selected and how many tested, by any table
     // and by that of zones; and that no open proof was bound.
-    ensures answered { let own =
-        own_rules ⟦<dyn StatsRewriteRule as StatsRewriteRule>⟧ rules.now.own.items in
+    ensures answered { let own = own_rules StatsRewriteRule-box rules.now.own.items in
         IfOk result (ScansRanges own predicate.now chunk.now first map.now) }
     // When each refusal comes.
-    ensures refused { let own =
-        own_rules ⟦<dyn StatsRewriteRule as StatsRewriteRule>⟧ rules.now.own.items in
+    ensures refused { let own = own_rules StatsRewriteRule-box rules.now.own.items in
         let are_ranges = has_ranges_from chunk.now first map.now in
         RefusesRanges are_ranges own predicate.now map.now result }
 {
@@ -197,12 +195,10 @@ pub fn scan_ranges(
         → rules.now.own.items ≡ [] → IsTrue (is_apart predicate.now)
         → ZonesSkipExactly predicate.now zones scan.skipped.items) }
     // All that `scan_ranges_from` finds from the first row on.
-    ensures answered { let own =
-        own_rules ⟦<dyn StatsRewriteRule as StatsRewriteRule>⟧ rules.now.own.items in
+    ensures answered { let own = own_rules StatsRewriteRule-box rules.now.own.items in
         IfOk result (ScansRanges own predicate.now chunk.now 0 map.now) }
     // When each refusal comes.
-    ensures refused { let own =
-        own_rules ⟦<dyn StatsRewriteRule as StatsRewriteRule>⟧ rules.now.own.items in
+    ensures refused { let own = own_rules StatsRewriteRule-box rules.now.own.items in
         let are_ranges = has_ranges chunk.now map.now in
         RefusesRanges are_ranges own predicate.now map.now result }
 {

@@ -87,12 +87,10 @@ fn scan_rules(
     requires fits { IsTrue (fits_scope predicate.now zones.now.scope) }
     ensures parts { AreParts zones.now.parts }
     ensures scoped { HaveScope zones.now.scope zones.now.parts }
-    ensures answered { let own =
-        own_rules ⟦<dyn StatsRewriteRule as StatsRewriteRule>⟧ rules.now.own.items in
+    ensures answered { let own = own_rules StatsRewriteRule-box rules.now.own.items in
         let answers = statistics_answers zones.now.parts in
         IfOk result (ScansByZones own predicate.now zones.now.parts answers) }
-    ensures refused { let own =
-        own_rules ⟦<dyn StatsRewriteRule as StatsRewriteRule>⟧ rules.now.own.items in
+    ensures refused { let own = own_rules StatsRewriteRule-box rules.now.own.items in
         RefusesByZones own predicate.now zones.now.parts result }
 {
     // That the parts are of the scope and their map is kept.
@@ -128,8 +126,7 @@ pub fn scan_zones<'a>(
         → scan.selected.items ≡ full predicate.now zones.now.parts) }
     // A part is skipped exactly if the falsifier is true of it, as in the scan of these parts by
     // the binders of their own statistics.
-    ensures skipped { let own =
-        own_rules ⟦<dyn StatsRewriteRule as StatsRewriteRule>⟧ rules.now.own.items in
+    ensures skipped { let own = own_rules StatsRewriteRule-box rules.now.own.items in
         let values = ⟦<StatsBinder<'a> as StatBinder>⟧.value in
         let answers = answered values zones.now.parts zones.now.parts in
         let places = skipped_parts (falsifier_of own predicate.now) answers in
@@ -141,14 +138,12 @@ pub fn scan_zones<'a>(
         → SkipsExactly predicate.now zones.now.parts scan.skipped.items) }
     // Which parts are skipped and whole, which rows are selected and how many tested, as in that
     // scan; and that no open proof was bound.
-    ensures answered { let own =
-        own_rules ⟦<dyn StatsRewriteRule as StatsRewriteRule>⟧ rules.now.own.items in
+    ensures answered { let own = own_rules StatsRewriteRule-box rules.now.own.items in
         let values = ⟦<StatsBinder<'a> as StatBinder>⟧.value in
         let answers = answered values zones.now.parts zones.now.parts in
         IfOk result (ScansByZones own predicate.now zones.now.parts answers) }
     // When each refusal comes.
-    ensures refused { let own =
-        own_rules ⟦<dyn StatsRewriteRule as StatsRewriteRule>⟧ rules.now.own.items in
+    ensures refused { let own = own_rules StatsRewriteRule-box rules.now.own.items in
         RefusesByZones own predicate.now zones.now.parts result }
 {
     scan_rules(alloc, zones, predicate, rules)

@@ -19,7 +19,7 @@ returns-clause-answered g c =
     let p = c.args.predicate.now in
     let parts = c.args.parts.now in
     let binders = c.args.binders.now in
-    let own = own_rules (λ i. (g.dyn-1.0.entry i).1) c.args.rules.now.own.items in
+    let own = own_rules (λ b. (g.dyn-1.0.entry b.vtable).1) c.args.rules.now.own.items in
     subst (λ (o : Option (Tree Place)). IfOk c.scan_by.result (ScansByBinders B o (satisfier own p) p parts binders)) (c.as_ref.ensures.value ∙ c.in_ok-falsifier.ensures.answer)
     (subst (λ (o : Option (Tree Place)). IfOk c.scan_by.result (ScansByBinders B (option_copied c.as_ref.result) o p parts binders)) (c.as_ref-2.ensures.value ∙ c.in_ok-satisfier.ensures.answer) c.scan_by.ensures.answered)
 
@@ -29,7 +29,7 @@ returns-clause-skipped g c = IfOk-weaker c.scan_by.result _ _ (λ scan all faith
 pub returns-clause-selected : goal.returns-clause-selected
 returns-clause-selected g c =
     let p = c.args.predicate.now in
-    let own = own_rules (λ i. (g.dyn-1.0.entry i).1) c.args.rules.now.own.items in
+    let own = own_rules (λ b. (g.dyn-1.0.entry b.vtable).1) c.args.rules.now.own.items in
     let predicate : is_predicate p ≡ true = true_from_ne_false (is_predicate p) (λ other. let k = c.in_ok-falsifier.ensures.not_predicate other in cc) in
     IfOk-weaker c.scan_by.result _ _
     (λ scan all faithful honest.
@@ -45,7 +45,7 @@ returns-clause-complete g c =
     IfOk-weaker c.scan_by.result _ _
     (λ scan all none faithful own once.
     skips_exactly g.B.StatBinder.value p parts binders scan.skipped.items c.requires.binders predicate c.requires.fits all.are_parts own once
-    ((all.found faithful).skipped ∙ ap (λ bs. skipped_parts (falsifier (own_rules (λ i. (g.dyn-1.0.entry i).1) bs) p) (answered g.B.StatBinder.value parts binders)) none))
+    ((all.found faithful).skipped ∙ ap (λ bs. skipped_parts (falsifier (own_rules (λ b. (g.dyn-1.0.entry b.vtable).1) bs) p) (answered g.B.StatBinder.value parts binders)) none))
     (returns-clause-answered g c)
 
 pub returns-clause-refused : goal.returns-clause-refused
@@ -54,7 +54,7 @@ returns-clause-refused g c =
     let p = c.args.predicate.now in
     let parts = c.args.parts.now in
     let binders = c.args.binders.now in
-    let own = own_rules (λ i. (g.dyn-1.0.entry i).1) c.args.rules.now.own.items in
+    let own = own_rules (λ b. (g.dyn-1.0.entry b.vtable).1) c.args.rules.now.own.items in
     let predicate : is_predicate p ≡ true = true_from_ne_false (is_predicate p) (λ other. let k = c.in_ok-falsifier.ensures.not_predicate other in cc) in
     let f = option_copied c.as_ref.result in
     let s = option_copied c.as_ref-2.result in
@@ -66,7 +66,7 @@ returns-clause-refused g c =
 pub returns-in_err-falsifier-clause-refused : goal.returns-in_err-falsifier-clause-refused
 returns-in_err-falsifier-clause-refused g c =
     let q = err_from_is_err_and c.from_residual.result c.from_residual.ensures.1 in
-    let own = own_rules (λ i. (g.dyn-1.0.entry i).1) c.args.rules.now.own.items in
+    let own = own_rules (λ b. (g.dyn-1.0.entry b.vtable).1) c.args.rules.now.own.items in
     let told = c.in_err-falsifier.ensures in
     rw (q.1, q.2)
     (not_falsified g.B.StatBinder own c.args.predicate.now c.args.parts.now c.args.binders.now c.in_err-falsifier.field-0.0 (λ other. err_same (told.not_predicate other)) told.refusal)
@@ -74,7 +74,7 @@ returns-in_err-falsifier-clause-refused g c =
 pub returns-in_err-satisfier-clause-refused : goal.returns-in_err-satisfier-clause-refused
 returns-in_err-satisfier-clause-refused g c =
     let q = err_from_is_err_and c.from_residual-in_err-satisfier.result c.from_residual-in_err-satisfier.ensures.1 in
-    let own = own_rules (λ i. (g.dyn-1.0.entry i).1) c.args.rules.now.own.items in
+    let own = own_rules (λ b. (g.dyn-1.0.entry b.vtable).1) c.args.rules.now.own.items in
     let told = c.in_err-satisfier.ensures in
     rw (q.1, q.2)
     (not_satisfied g.B.StatBinder own c.args.predicate.now c.args.parts.now c.args.binders.now c.in_err-satisfier.field-0.0 (λ other. err_same (told.not_predicate other)) told.refusal)

@@ -12,21 +12,21 @@ use Rattle.vortex_prune.proofs.scan.prune.verdicts.Goals as goal
 pub returns-clause-rows : goal.returns-clause-rows
 returns-clause-rows g c =
     let p = c.args.predicate.now in
-    let own = own_rules (λ i. (g.dyn-1.0.entry i).1) c.args.rules.now.own.items in
+    let own = own_rules (λ b. (g.dyn-1.0.entry b.vtable).1) c.args.rules.now.own.items in
     rows_found (λ vs. vs.items) c.in_ok-bound.bound (option_copied c.as_ref-2.result) (option_copied c.as_ref.result) (falsifier own p) (option_copied c.as_ref-3.result) (satisfier own p) c.args.map.now c.verdicts_by.result
     c.as_ref-2.ensures.value (c.as_ref.ensures.value ∙ c.in_ok-falsifier.ensures.answer) (c.as_ref-3.ensures.value ∙ c.in_ok-satisfier.ensures.answer) c.in_ok-bound.ensures.tells c.verdicts_by.ensures.told
 
 pub returns-clause-verdicts : goal.returns-clause-verdicts
 returns-clause-verdicts g c =
     let p = c.args.predicate.now in
-    let own = own_rules (λ i. (g.dyn-1.0.entry i).1) c.args.rules.now.own.items in
+    let own = own_rules (λ b. (g.dyn-1.0.entry b.vtable).1) c.args.rules.now.own.items in
     verdicts_found (λ vs. vs.items) (falsifier own p) (satisfier own p) c.args.map.now c.verdicts_by.result (returns-clause-rows g c) c.verdicts_by.ensures.long
 
 pub returns-clause-refusal : goal.returns-clause-refusal
 returns-clause-refusal g c = λ predicate.
     let p = c.args.predicate.now in
     let m = c.args.map.now in
-    let own = own_rules (λ i. (g.dyn-1.0.entry i).1) c.args.rules.now.own.items in
+    let own = own_rules (λ b. (g.dyn-1.0.entry b.vtable).1) c.args.rules.now.own.items in
     let tells : TellsAs (option_copied c.as_ref-2.result) (falsifier own p) m =
     subst (λ (o : Option (Tree Place)). TellsAs o (falsifier own p) m) (sym c.as_ref-2.ensures.value)
     (subst (λ (o : Option (Tree Place)). TellsAs c.in_ok-bound.bound o m) (c.as_ref.ensures.value ∙ c.in_ok-falsifier.ensures.answer) c.in_ok-bound.ensures.tells) in

@@ -25,8 +25,8 @@ returns-clause-rows_selected g c =
 pub returns-clause-refused : goal.returns-clause-refused
 returns-clause-refused g c =
     let has = sym c.has_ranges.ensures ∙ c.if-not-has_ranges.false in
-    as_from_first (own_rules (λ i. (g.dyn-1.0.entry i).1) c.args.rules.now.own.items) c.args.predicate.now c.args.map.now _ _ c.scan_ranges_from.result has (from_first c.args.chunk.now c.args.map.now has) c.scan_ranges_from.ensures.refused
+    as_from_first (own_rules (λ b. (g.dyn-1.0.entry b.vtable).1) c.args.rules.now.own.items) c.args.predicate.now c.args.map.now _ _ c.scan_ranges_from.result has (from_first c.args.chunk.now c.args.map.now has) c.scan_ranges_from.ensures.refused
 
 pub returns-then-not-has_ranges-clause-refused : goal.returns-then-not-has_ranges-clause-refused
 returns-then-not-has_ranges-clause-refused g c =
-    no_ranges (own_rules (λ i. (g.dyn-1.0.entry i).1) c.args.rules.now.own.items) c.args.predicate.now c.args.map.now _ (sym c.has_ranges.ensures ∙ c.if-not-has_ranges.true)
+    no_ranges (own_rules (λ b. (g.dyn-1.0.entry b.vtable).1) c.args.rules.now.own.items) c.args.predicate.now c.args.map.now _ (sym c.has_ranges.ensures ∙ c.if-not-has_ranges.true)

@@ -23,7 +23,7 @@ pub returns-clause-answered : goal.returns-clause-answered
 returns-clause-answered g c =
     let p = c.args.predicate.now in
     let z = c.args.zones.now in
-    let own = own_rules (λ i. (g.dyn-1.0.entry i).1) c.args.rules.now.own.items in
+    let own = own_rules (λ b. (g.dyn-1.0.entry b.vtable).1) c.args.rules.now.own.items in
     let told = c.in_ok-verdicts.ensures in
     of_two c.scan_verdicts.result _ _ _
     (λ scan found shut.
@@ -37,7 +37,7 @@ returns-clause-answered g c =
 
 pub returns-clause-refused : goal.returns-clause-refused
 returns-clause-refused g c =
-    zones_by_verdicts (own_rules (λ i. (g.dyn-1.0.entry i).1) c.args.rules.now.own.items) c.args.predicate.now c.args.zones.now.parts c.scan_verdicts.result c.in_ok-verdicts.ensures.predicate c.scan_verdicts.ensures.memory
+    zones_by_verdicts (own_rules (λ b. (g.dyn-1.0.entry b.vtable).1) c.args.rules.now.own.items) c.args.predicate.now c.args.zones.now.parts c.scan_verdicts.result c.in_ok-verdicts.ensures.predicate c.scan_verdicts.ensures.memory
 
 pub returns-in_err-verdicts-clause-refused : goal.returns-in_err-verdicts-clause-refused
 returns-in_err-verdicts-clause-refused g c =
@@ -45,7 +45,7 @@ returns-in_err-verdicts-clause-refused g c =
     let p = c.args.predicate.now in
     let z = c.args.zones.now in
     let m = c.map.result.now in
-    let own = own_rules (λ i. (g.dyn-1.0.entry i).1) c.args.rules.now.own.items in
+    let own = own_rules (λ b. (g.dyn-1.0.entry b.vtable).1) c.args.rules.now.own.items in
     let same : m.scope ≡ z.scope = ap (λ (x : MapData). x.scope) c.map.ensures.value in
     rw (q.1, q.2)
     (refuses_by_zones own p z.parts _ (λ other. ap Err (err_same (c.in_err-verdicts.ensures.not_predicate other)))

@@ -17,7 +17,7 @@ returns-clause-selected g c =
     IfOk-weaker c.scan_rules.result _ _
     (λ scan all are_true.
     all.found.kept
-    ∙ kept_is_full (λ (part : PartData) row n. part_values part) (own_rules (λ i. (g.dyn-1.0.entry i).1) c.args.rules.now.own.items) c.args.predicate.now z.parts z.parts refl all.predicate c.requires.plain
+    ∙ kept_is_full (λ (part : PartData) row n. part_values part) (own_rules (λ b. (g.dyn-1.0.entry b.vtable).1) c.args.rules.now.own.items) c.args.predicate.now z.parts z.parts refl all.predicate c.requires.plain
     (fits_each c.args.predicate.now z.scope z.parts c.scan_rules.ensures.scoped c.requires.fits) c.scan_rules.ensures.parts (statistics_honest z.parts (parts_by_recursion z.parts c.scan_rules.ensures.parts) are_true))
     c.scan_rules.ensures.answered
 
@@ -31,5 +31,5 @@ returns-clause-complete g c =
     (λ scan all none once.
     skips_exactly (λ (part : PartData) row n. part_values part) c.args.predicate.now z.parts z.parts scan.skipped.items refl all.predicate
     (fits_each c.args.predicate.now z.scope z.parts c.scan_rules.ensures.scoped c.requires.fits) c.scan_rules.ensures.parts (by_statistics z.parts) once
-    (all.found.skipped ∙ ap (λ bs. skipped_parts (falsifier (own_rules (λ i. (g.dyn-1.0.entry i).1) bs) c.args.predicate.now) (statistics_answers z.parts)) none))
+    (all.found.skipped ∙ ap (λ bs. skipped_parts (falsifier (own_rules (λ b. (g.dyn-1.0.entry b.vtable).1) bs) c.args.predicate.now) (statistics_answers z.parts)) none))
     c.scan_rules.ensures.answered
