@@ -125,12 +125,10 @@ fn like_proof(
 ) -> Result<Option<BoundExpression>, StatsError>
     requires like { e.now ≡ tree.like options text.now pattern.now }
     requires truth { IsTrue (is_predicate e.now) }
-    ensures value { let M = ⟦<dyn StatsRewriteRule as StatsRewriteRule>⟧ in
-        let own = own_rules M rules.now.own.items in
+    ensures value { let own = own_rules StatsRewriteRule-box rules.now.own.items in
         IfOk result (λ proof. proof ≡ spec.leaf_proof own e.now) }
     ensures truth { IfOk result (λ proof. IfSome proof (λ e. IsTrue (is_predicate e))) }
-    ensures refusal { let M = ⟦<dyn StatsRewriteRule as StatsRewriteRule>⟧ in
-        let own = own_rules M rules.now.own.items in
+    ensures refusal { let own = own_rules StatsRewriteRule-box rules.now.own.items in
         IfErr result (IsRefusal (falsifying_causes own e.now)) }
 {
     let by_rules = falsify(alloc, e, rules)?;
@@ -145,12 +143,10 @@ fn leaf_proof(
     rules: &Rules,
 ) -> Result<Option<BoundExpression>, StatsError>
     requires { IsTrue (is_predicate e.now) }
-    ensures value { let M = ⟦<dyn StatsRewriteRule as StatsRewriteRule>⟧ in
-        let own = own_rules M rules.now.own.items in
+    ensures value { let own = own_rules StatsRewriteRule-box rules.now.own.items in
         IfOk result (λ proof. proof ≡ spec.leaf_proof own e.now) }
     ensures truth { IfOk result (λ proof. IfSome proof (λ e. IsTrue (is_predicate e))) }
-    ensures refusal { let M = ⟦<dyn StatsRewriteRule as StatsRewriteRule>⟧ in
-        let own = own_rules M rules.now.own.items in
+    ensures refusal { let own = own_rules StatsRewriteRule-box rules.now.own.items in
         IfErr result (IsRefusal (falsifying_causes own e.now)) }
 {
     match e.parts() {
@@ -179,12 +175,10 @@ pub(crate) fn form_proof(
     rules: &Rules,
 ) -> Result<Option<BoundExpression>, StatsError>
     requires { IsTrue (is_predicate e.now) }
-    ensures value { let M = ⟦<dyn StatsRewriteRule as StatsRewriteRule>⟧ in
-        let own = own_rules M rules.now.own.items in
+    ensures value { let own = own_rules StatsRewriteRule-box rules.now.own.items in
         IfOk result (λ proof. proof ≡ spec.form_proof own e.now) }
     ensures truth { IfOk result (λ proof. IfSome proof (λ e. IsTrue (is_predicate e))) }
-    ensures refusal { let M = ⟦<dyn StatsRewriteRule as StatsRewriteRule>⟧ in
-        let own = own_rules M rules.now.own.items in
+    ensures refusal { let own = own_rules StatsRewriteRule-box rules.now.own.items in
         IfErr result (IsRefusal (falsifying_causes own e.now)) }
 {
     if !has_column_like(e) {

@@ -126,15 +126,13 @@ fn test_proof(
     rules: &Rules,
 ) -> Result<Option<BoundExpression>, StatsError>
     requires { IsTrue (is_predicate predicate.now) }
-    ensures value { let M = ⟦<dyn StatsRewriteRule as StatsRewriteRule>⟧ in
-        let own = own_rules M rules.now.own.items in
+    ensures value { let own = own_rules StatsRewriteRule-box rules.now.own.items in
         IfOk result (λ proof. proof ≡ test_proof_of own levels wanted with_null predicate.now) }
     ensures truth { IfOk result (λ proof. IfSome proof (λ e. IsTrue (is_predicate e))) }
     ensures form { let p = predicate.now in
         IfOk result (λ _. IsTrue (is_test_within levels wanted with_null p)
         → IsTestForm wanted with_null p (strict_of wanted with_null p)) }
-    ensures refusal { let M = ⟦<dyn StatsRewriteRule as StatsRewriteRule>⟧ in
-        let own = own_rules M rules.now.own.items in
+    ensures refusal { let own = own_rules StatsRewriteRule-box rules.now.own.items in
         IfErr result (IsRefusal
         (falsifying_causes own (strict_of wanted with_null predicate.now))) }
 {
@@ -154,13 +152,11 @@ fn normal_falsifier(
     rules: &Rules,
 ) -> Result<Option<BoundExpression>, StatsError>
     requires { IsTrue (is_predicate normal.now) }
-    ensures value { let M = ⟦<dyn StatsRewriteRule as StatsRewriteRule>⟧ in
-        let own = own_rules M rules.now.own.items in
+    ensures value { let own = own_rules StatsRewriteRule-box rules.now.own.items in
         IfOk result (λ proof.
         proof ≡ unless_deep levels normal.now (falsifier_of own normal.now)) }
     ensures truth { IfOk result (λ proof. IfSome proof (λ e. IsTrue (is_predicate e))) }
-    ensures refusal { let M = ⟦<dyn StatsRewriteRule as StatsRewriteRule>⟧ in
-        let own = own_rules M rules.now.own.items in
+    ensures refusal { let own = own_rules StatsRewriteRule-box rules.now.own.items in
         IfErr result (IsRefusal (falsifying_causes own normal.now)) }
 {
     if is_shallow(normal, levels) {
@@ -178,13 +174,11 @@ fn normal_satisfier(
     rules: &Rules,
 ) -> Result<Option<BoundExpression>, StatsError>
     requires { IsTrue (is_predicate normal.now) }
-    ensures value { let M = ⟦<dyn StatsRewriteRule as StatsRewriteRule>⟧ in
-        let own = own_rules M rules.now.own.items in
+    ensures value { let own = own_rules StatsRewriteRule-box rules.now.own.items in
         IfOk result (λ proof.
         proof ≡ unless_deep levels normal.now (satisfier_of own normal.now)) }
     ensures truth { IfOk result (λ proof. IfSome proof (λ e. IsTrue (is_predicate e))) }
-    ensures refusal { let M = ⟦<dyn StatsRewriteRule as StatsRewriteRule>⟧ in
-        let own = own_rules M rules.now.own.items in
+    ensures refusal { let own = own_rules StatsRewriteRule-box rules.now.own.items in
         IfErr result (IsRefusal (satisfying_causes own normal.now)) }
 {
     if is_shallow(normal, levels) {
@@ -205,15 +199,13 @@ fn skip_proof(
     requires predicate { IsTrue (is_predicate predicate.now) }
     requires normal { normal.now ≡ normal_of predicate.now }
     requires truth { IsTrue (is_predicate normal.now) }
-    ensures value { let M = ⟦<dyn StatsRewriteRule as StatsRewriteRule>⟧ in
-        let own = own_rules M rules.now.own.items in
+    ensures value { let own = own_rules StatsRewriteRule-box rules.now.own.items in
         IfOk result (λ proof. proof ≡ skip_proof_of own levels predicate.now) }
     ensures form { let p = predicate.now in
         IfOk result (λ _. IsTrue (is_test_within levels true false p)
         → IsTestForm true false p (strict_of true false p)) }
     ensures truth { IfOk result (λ proof. IfSome proof (λ e. IsTrue (is_predicate e))) }
-    ensures refusal { let M = ⟦<dyn StatsRewriteRule as StatsRewriteRule>⟧ in
-        let own = own_rules M rules.now.own.items in
+    ensures refusal { let own = own_rules StatsRewriteRule-box rules.now.own.items in
         IfErr result (IsRefusal (skip_causes own predicate.now)) }
 {
     let by_test = test_proof(alloc, levels, true, false, predicate, rules)?;
@@ -234,15 +226,13 @@ fn whole_proof(
     requires predicate { IsTrue (is_predicate predicate.now) }
     requires normal { normal.now ≡ normal_of predicate.now }
     requires truth { IsTrue (is_predicate normal.now) }
-    ensures value { let M = ⟦<dyn StatsRewriteRule as StatsRewriteRule>⟧ in
-        let own = own_rules M rules.now.own.items in
+    ensures value { let own = own_rules StatsRewriteRule-box rules.now.own.items in
         IfOk result (λ proof. proof ≡ whole_proof_of own levels predicate.now) }
     ensures form { let p = predicate.now in
         IfOk result (λ _. IsTrue (is_test_within levels false true p)
         → IsTestForm false true p (strict_of false true p)) }
     ensures truth { IfOk result (λ proof. IfSome proof (λ e. IsTrue (is_predicate e))) }
-    ensures refusal { let M = ⟦<dyn StatsRewriteRule as StatsRewriteRule>⟧ in
-        let own = own_rules M rules.now.own.items in
+    ensures refusal { let own = own_rules StatsRewriteRule-box rules.now.own.items in
         IfErr result (IsRefusal (whole_causes own predicate.now)) }
 {
     let by_test = test_proof(alloc, levels, false, true, predicate, rules)?;
@@ -261,15 +251,15 @@ fn made(
 ) -> Result<PruningPredicate, StatsError>
     requires { IsTrue (is_plain predicate.now) }
     ensures predicate { IfOk result (λ made. made.predicate ≡ predicate.now) }
-    ensures made { let M = ⟦<dyn StatsRewriteRule as StatsRewriteRule>⟧ in
-        IfOk result (IsMadeBy (own_rules M rules.now.own.items) levels) }
+    ensures made { let own = own_rules StatsRewriteRule-box rules.now.own.items in
+        IfOk result (IsMadeBy own levels) }
     ensures right { IfOk result IsRight }
     ensures forms { IfOk result (λ made. HasTestForms levels made.predicate) }
     ensures not_predicate { is_predicate predicate.now ≡ false → result ≡ Err NotPredicate }
     ensures memory { IsTrue (is_predicate predicate.now) → rules.now.own.items ≡ []
         → IfErr result IsMemory }
-    ensures refusal { let M = ⟦<dyn StatsRewriteRule as StatsRewriteRule>⟧ in
-        let causes = making_causes (own_rules M rules.now.own.items) predicate.now in
+    ensures refusal { let own = own_rules StatsRewriteRule-box rules.now.own.items in
+        let causes = making_causes own predicate.now in
         IsTrue (is_predicate predicate.now) → IfErr result (IsRefusal causes) }
 {
     let normal = normalize(alloc, predicate)?;
@@ -300,8 +290,8 @@ impl PruningPredicate {
         requires { IsTrue (is_plain predicate.now) }
         ensures predicate { IfOk result (λ made. made.predicate ≡ predicate.now) }
         // By these rules it has the proofs of the definitions.
-        ensures made { let M = ⟦<dyn StatsRewriteRule as StatsRewriteRule>⟧ in
-            IfOk result (IsMadeBy (own_rules M rules.now.own.items) None) }
+        ensures made { let own = own_rules StatsRewriteRule-box rules.now.own.items in
+            IfOk result (IsMadeBy own None) }
         // They mean what they are for, whichever lawful rules took part.
         ensures right { IfOk result IsRight }
         // The tests of its truth are satisfied where they are to be.
@@ -312,8 +302,8 @@ impl PruningPredicate {
             → IfErr result IsMemory }
         // A refusal other than for memory has its cause: a rule asked at a visited node of the
         // predicate, of its normal form or of a strict one.
-        ensures refusal { let M = ⟦<dyn StatsRewriteRule as StatsRewriteRule>⟧ in
-            let causes = making_causes (own_rules M rules.now.own.items) predicate.now in
+        ensures refusal { let own = own_rules StatsRewriteRule-box rules.now.own.items in
+            let causes = making_causes own predicate.now in
             IsTrue (is_predicate predicate.now) → IfErr result (IsRefusal causes) }
     {
         made(alloc, None, predicate, rules)
@@ -330,15 +320,15 @@ impl PruningPredicate {
     ) -> Result<PruningPredicate, StatsError>
         requires { IsTrue (is_plain predicate.now) }
         ensures predicate { IfOk result (λ made. made.predicate ≡ predicate.now) }
-        ensures made { let M = ⟦<dyn StatsRewriteRule as StatsRewriteRule>⟧ in
-            IfOk result (IsMadeBy (own_rules M rules.now.own.items) (Some levels)) }
+        ensures made { let own = own_rules StatsRewriteRule-box rules.now.own.items in
+            IfOk result (IsMadeBy own (Some levels)) }
         ensures right { IfOk result IsRight }
         ensures forms { IfOk result (λ made. HasTestForms (Some levels) made.predicate) }
         ensures not_predicate { is_predicate predicate.now ≡ false → result ≡ Err NotPredicate }
         ensures memory { IsTrue (is_predicate predicate.now) → rules.now.own.items ≡ []
             → IfErr result IsMemory }
-        ensures refusal { let M = ⟦<dyn StatsRewriteRule as StatsRewriteRule>⟧ in
-            let causes = making_causes (own_rules M rules.now.own.items) predicate.now in
+        ensures refusal { let own = own_rules StatsRewriteRule-box rules.now.own.items in
+            let causes = making_causes own predicate.now in
             IsTrue (is_predicate predicate.now) → IfErr result (IsRefusal causes) }
     {
         made(alloc, Some(levels), predicate, rules)

@@ -41,14 +41,14 @@ pub fn prune_groups(
         → PrunesSoundly predicate.now scope leaves.now file pruned.skipped.items
         pruned.whole.items) }
     // A row group is skipped exactly if the falsifier is true by its statistics.
-    ensures skipped { let M = ⟦<dyn StatsRewriteRule as StatsRewriteRule>⟧ in
-        let proof = falsifier_of (own_rules M rules.now.own.items) predicate.now in
+    ensures skipped { let own = own_rules StatsRewriteRule-box rules.now.own.items in
+        let proof = falsifier_of own predicate.now in
         IfOk result (λ pruned.
         pruned.skipped.items ≡ skipped_zones proof scope (map zone_data groups.now)) }
     // And whole exactly if it isn't skipped and the satisfier is.
-    ensures whole { let M = ⟦<dyn StatsRewriteRule as StatsRewriteRule>⟧ in
-        let f = falsifier_of (own_rules M rules.now.own.items) predicate.now in
-        let s = satisfier_of (own_rules M rules.now.own.items) predicate.now in
+    ensures whole { let own = own_rules StatsRewriteRule-box rules.now.own.items in
+        let f = falsifier_of own predicate.now in
+        let s = satisfier_of own predicate.now in
         IfOk result (λ pruned.
         pruned.whole.items ≡ whole_zones f s scope (map zone_data groups.now)) }
 {

@@ -100,9 +100,9 @@ impl PruningCondition {
         // condition means.
         ensures says { IfOk result (λ made.
             Says scope.now made.condition made.predicate) }
-        ensures made { let M = ⟦<dyn StatsRewriteRule as StatsRewriteRule>⟧ in
+        ensures made { let own = own_rules StatsRewriteRule-box rules.now.own.items in
             IfOk result (λ made.
-            IsMadeBy (own_rules M rules.now.own.items) (Some max_levels) (pruning_of made)) }
+            IsMadeBy own (Some max_levels) (pruning_of made)) }
         // Says what the proofs tell by statistics of the scope, whatever the leaves mean that
         // aren't read, whichever lawful rules took part.
         ensures refutes { IfOk result (λ made.

@@ -12,7 +12,7 @@ use Rattle.vortex_predicates.proofs.equal_bounds.+leaf_proof.Goals as goal
 
 pub returns-in_err-left-in-Binary-And-default-default-clause-refusal : goal.returns-in_err-left-in-Binary-And-default-default-clause-refusal
 returns-in_err-left-in-Binary-And-default-default-clause-refusal g t c =
-    let own = own_rules (λ i. (g.dyn-1.0.entry i).1) c.args.rules.now.own.items in
+    let own = own_rules (λ b. (g.dyn-1.0.entry b.vtable).1) c.args.rules.now.own.items in
     let l = c.in-Binary-And-default-default.left.now in
     let r = c.in-Binary-And-default-default.right.now in
     let is : c.args.e.now ≡ binary And l r = c.parts.ensures ∙ ap whole c.in-Binary-And-default-default.is ∙ ap (λ (o : Operator). binary o l r) c.in-Binary-And-default-default.field-0-is in
@@ -21,7 +21,7 @@ returns-in_err-left-in-Binary-And-default-default-clause-refusal g t c =
 
 pub returns-in_err-right-in-Binary-And-default-default-clause-refusal : goal.returns-in_err-right-in-Binary-And-default-default-clause-refusal
 returns-in_err-right-in-Binary-And-default-default-clause-refusal g t c =
-    let own = own_rules (λ i. (g.dyn-1.0.entry i).1) c.args.rules.now.own.items in
+    let own = own_rules (λ b. (g.dyn-1.0.entry b.vtable).1) c.args.rules.now.own.items in
     let l = c.in-Binary-And-default-default.left.now in
     let r = c.in-Binary-And-default-default.right.now in
     let is : c.args.e.now ≡ binary And l r = c.parts.ensures ∙ ap whole c.in-Binary-And-default-default.is ∙ ap (λ (o : Operator). binary o l r) c.in-Binary-And-default-default.field-0-is in
@@ -30,7 +30,7 @@ returns-in_err-right-in-Binary-And-default-default-clause-refusal g t c =
 
 pub returns-in_err-left-in-Binary-Or-default-default-clause-refusal : goal.returns-in_err-left-in-Binary-Or-default-default-clause-refusal
 returns-in_err-left-in-Binary-Or-default-default-clause-refusal g t c =
-    let own = own_rules (λ i. (g.dyn-1.0.entry i).1) c.args.rules.now.own.items in
+    let own = own_rules (λ b. (g.dyn-1.0.entry b.vtable).1) c.args.rules.now.own.items in
     let l = c.in-Binary-Or-default-default.left.now in
     let r = c.in-Binary-Or-default-default.right.now in
     let is : c.args.e.now ≡ binary Or l r = c.parts.ensures ∙ ap whole c.in-Binary-Or-default-default.is ∙ ap (λ (o : Operator). binary o l r) c.in-Binary-Or-default-default.field-0-is in
@@ -39,7 +39,7 @@ returns-in_err-left-in-Binary-Or-default-default-clause-refusal g t c =
 
 pub returns-in_err-right-in-Binary-Or-default-default-clause-refusal : goal.returns-in_err-right-in-Binary-Or-default-default-clause-refusal
 returns-in_err-right-in-Binary-Or-default-default-clause-refusal g t c =
-    let own = own_rules (λ i. (g.dyn-1.0.entry i).1) c.args.rules.now.own.items in
+    let own = own_rules (λ b. (g.dyn-1.0.entry b.vtable).1) c.args.rules.now.own.items in
     let l = c.in-Binary-Or-default-default.left.now in
     let r = c.in-Binary-Or-default-default.right.now in
     let is : c.args.e.now ≡ binary Or l r = c.parts.ensures ∙ ap whole c.in-Binary-Or-default-default.is ∙ ap (λ (o : Operator). binary o l r) c.in-Binary-Or-default-default.field-0-is in

@@ -10,7 +10,7 @@ use Rattle.vortex_predicates.proofs.pruning_predicate.test_proof.Goals as goal
 
 pub returns-in_err-proof-clause-refusal : goal.returns-in_err-proof-clause-refusal
 returns-in_err-proof-clause-refusal g c =
-    let own = own_rules (λ i. (g.dyn-1.0.entry i).1) c.args.rules.now.own.items in
+    let own = own_rules (λ b. (g.dyn-1.0.entry b.vtable).1) c.args.rules.now.own.items in
     let q = err_from_is_err_and c.from_residual-in_err-proof.result c.from_residual-in_err-proof.ensures.1 in
     rw (q.1, q.2)
     (subst (λ (e : Tree Place). IsRefusal (falsifying_causes own e) c.in_err-proof.field-0.0) (c.in_ok-form.ensures.form ∙ ap strict (sym (if_same _ _ _ (sym c.in_ok-test.ensures.value ∙ c.in-Some.is))))

@@ -11,7 +11,7 @@ use Rattle.vortex_predicates.proofs.pruning_predicate.whole_proof.Goals as goal
 
 pub returns-in_err-by_normal-clause-refusal : goal.returns-in_err-by_normal-clause-refusal
 returns-in_err-by_normal-clause-refusal g c =
-    let own = own_rules (λ i. (g.dyn-1.0.entry i).1) c.args.rules.now.own.items in
+    let own = own_rules (λ b. (g.dyn-1.0.entry b.vtable).1) c.args.rules.now.own.items in
     let p = c.args.predicate.now in
     let q = err_from_is_err_and c.from_residual-in_err-by_normal.result c.from_residual-in_err-by_normal.ensures.1 in
     let rest = either_causes (satisfying_causes own (normal p)) (falsifying_causes own (strict_test false true p)) in

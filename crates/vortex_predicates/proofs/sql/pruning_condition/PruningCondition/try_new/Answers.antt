@@ -39,7 +39,7 @@ returns-clause-confirms g c =
 
 pub returns-clause-closed : goal.returns-clause-closed
 returns-clause-closed g c = λ none.
-    closed_by (own_rules (λ i. (g.dyn-1.0.entry i).1) c.args.rules.now.own.items) _ c.in_ok-proofs.proofs (ap (map (own_rule (λ i. (g.dyn-1.0.entry i).1))) none) c.in_ok-proofs.ensures.made
+    closed_by (own_rules (λ b. (g.dyn-1.0.entry b.vtable).1) c.args.rules.now.own.items) _ c.in_ok-proofs.proofs (ap (map (own_rule (λ b. (g.dyn-1.0.entry b.vtable).1))) none) c.in_ok-proofs.ensures.made
 
 pub returns-clause-says : goal.returns-clause-says
 returns-clause-says g c =
