@@ -1,10 +1,11 @@
-//! Explanations of a scan by the built-in rules: the fate of each part, and why.
+//! Explanations of a scan by the built-in rules: the verdict on each part, and why.
 use crate::explain::leaves::push_leaves;
 use crate::explain::proofs::{PartAt, Proofs, holds, push_shown, push_told};
 use std::alloc::{AllocError, Global};
 use vortex_base::scope::Scope;
 use vortex_expr::bound_expression::BoundExpression;
 use vortex_normal::normalize::normalize;
+use vortex_prune::Verdict;
 use vortex_rewrite::rewrite::rules::Rules;
 use vortex_stats::error::StatsError;
 use vortex_zone_map::zone_map::ZoneMap;
@@ -17,41 +18,33 @@ const MOST_TESTED: usize = 10;
 
 const SIGNS: usize = 100;
 
-// The fate of a part.
-#[derive(Clone, Copy, Debug, PartialEq, Eq)]
-enum Fate {
-    Skipped,
-    Whole,
-    Tested,
-}
-
-impl Fate {
-    fn word(self) -> &'static str {
-        match self {
-            Fate::Skipped => "skipped",
-            Fate::Whole => "whole",
-            Fate::Tested => "tested",
-        }
-    }
-
-    fn sign(self) -> &'static str {
-        match self {
-            Fate::Skipped => ".",
-            Fate::Whole => "#",
-            Fate::Tested => "?",
-        }
+// The word for what becomes of a part.
+fn word(verdict: Verdict) -> &'static str {
+    match verdict {
+        Verdict::Skipped => "skipped",
+        Verdict::Whole => "whole",
+        Verdict::Tested => "tested",
     }
 }
 
-// A part's fate by the proofs of the predicate.
-fn fate_of(alloc: Global, proofs: &Proofs, part: PartAt<'_>) -> Result<Fate, StatsError> {
+// The sign for what becomes of a part.
+fn sign(verdict: Verdict) -> &'static str {
+    match verdict {
+        Verdict::Skipped => ".",
+        Verdict::Whole => "#",
+        Verdict::Tested => "?",
+    }
+}
+
+// The verdict on a part by the proofs of the predicate.
+fn verdict_on(alloc: Global, proofs: &Proofs, part: PartAt<'_>) -> Result<Verdict, StatsError> {
     if holds(alloc, proofs.falsifier.as_ref(), part)? {
-        return Ok(Fate::Skipped);
+        return Ok(Verdict::Skipped);
     }
     if holds(alloc, proofs.satisfier.as_ref(), part)? {
-        return Ok(Fate::Whole);
+        return Ok(Verdict::Whole);
     }
-    Ok(Fate::Tested)
+    Ok(Verdict::Tested)
 }
 
 // A line with an expression, if there is one.
@@ -131,10 +124,10 @@ fn push_part(
     scope: &Scope,
     leaves: &[Leaf<'_>],
     part: PartAt<'_>,
-    fate: Fate,
+    verdict: Verdict,
 ) -> Result<(), StatsError> {
     let place = part.place;
-    let word = fate.word();
+    let word = word(verdict);
     let rows = rows_of(part.map, place);
     let line = format!(in alloc; "part {place}: {word}, {rows} rows\n")?;
     text.push_str(&line)?;
@@ -152,18 +145,18 @@ fn push_part(
 
 // The signs of many parts, each of them for as many neighbours as it takes, among which one that is
 // tested goes before a whole one and that before a skipped one.
-fn push_strip(alloc: Global, text: &mut String, fates: &[Fate]) -> Result<(), AllocError> {
-    let run = 1 + fates.len().saturating_sub(1) / SIGNS;
+fn push_strip(alloc: Global, text: &mut String, verdicts: &[Verdict]) -> Result<(), AllocError> {
+    let run = 1 + verdicts.len().saturating_sub(1) / SIGNS;
     let line = format!(in alloc; "parts, {run} a sign (. skipped, # whole, ? tested): ")?;
     text.push_str(&line)?;
-    for neighbours in fates.chunks(run) {
-        let mut fate = Fate::Skipped;
+    for neighbours in verdicts.chunks(run) {
+        let mut verdict = Verdict::Skipped;
         for each in neighbours {
-            if *each == Fate::Tested || fate == Fate::Skipped {
-                fate = *each;
+            if *each == Verdict::Tested || verdict == Verdict::Skipped {
+                verdict = *each;
             }
         }
-        text.push_str(fate.sign())?;
+        text.push_str(sign(verdict))?;
     }
     text.push_str("\n")
 }
@@ -172,11 +165,11 @@ fn push_strip(alloc: Global, text: &mut String, fates: &[Fate]) -> Result<(), Al
 fn most_tested(
     alloc: Global,
     map: &ZoneMap,
-    fates: &[Fate],
+    verdicts: &[Verdict],
 ) -> Result<Vec<(u64, usize)>, AllocError> {
     let mut tested = Vec::new(alloc);
-    for (place, fate) in fates.iter().enumerate() {
-        if *fate == Fate::Tested {
+    for (place, verdict) in verdicts.iter().enumerate() {
+        if *verdict == Verdict::Tested {
             tested.push((u64::MAX - rows_of(map, place), place))?;
         }
     }
@@ -192,18 +185,18 @@ fn push_parts(
     scope: &Scope,
     leaves: &[Leaf<'_>],
     map: &ZoneMap,
-    fates: &[Fate],
+    verdicts: &[Verdict],
 ) -> Result<(), StatsError> {
-    if fates.len() <= TOLD {
-        for (place, fate) in fates.iter().enumerate() {
-            push_part(alloc, text, scope, leaves, PartAt { map, place }, *fate)?;
+    if verdicts.len() <= TOLD {
+        for (place, verdict) in verdicts.iter().enumerate() {
+            push_part(alloc, text, scope, leaves, PartAt { map, place }, *verdict)?;
         }
         return Ok(());
     }
-    push_strip(alloc, text, fates)?;
-    for (_, place) in most_tested(alloc, map, fates)? {
-        if let Some(fate) = fates.get(place) {
-            push_part(alloc, text, scope, leaves, PartAt { map, place }, *fate)?;
+    push_strip(alloc, text, verdicts)?;
+    for (_, place) in most_tested(alloc, map, verdicts)? {
+        if let Some(verdict) = verdicts.get(place) {
+            push_part(alloc, text, scope, leaves, PartAt { map, place }, *verdict)?;
         }
     }
     Ok(())
@@ -236,10 +229,10 @@ pub fn explain(
         &Proofs::of(alloc, &normal, &rules)?,
     )?;
     let leaves = leaves_of(alloc, predicate, &rules)?;
-    let mut fates = Vec::with_capacity(alloc, map.len())?;
+    let mut verdicts = Vec::with_capacity(alloc, map.len())?;
     for place in 0..map.len() {
-        fates.push(fate_of(alloc, &proofs, PartAt { map, place })?)?;
+        verdicts.push(verdict_on(alloc, &proofs, PartAt { map, place })?)?;
     }
-    push_parts(alloc, &mut text, scope, &leaves, map, &fates)?;
+    push_parts(alloc, &mut text, scope, &leaves, map, &verdicts)?;
     Ok(text)
 }
