@@ -12,7 +12,7 @@ use vortex_text::streams::{Sink, write_out};
 
 // The columns of a file that are read, and lines for those that aren't.
 #[derive(Drop)]
-struct Told<'a> {
+struct ReadColumns<'a> {
     names: Vec<&'a str>,
     leaves: Vec<Leaf>,
     left_out: String,
@@ -29,7 +29,7 @@ fn reason(why: LeftOut) -> &'static str {
 }
 
 // Returns which columns are read.
-fn told_of<'a>(alloc: Global, columns: &Columns<'a>) -> Result<Told<'a>, AllocError> {
+fn read_columns<'a>(alloc: Global, columns: &Columns<'a>) -> Result<ReadColumns<'a>, AllocError> {
     let mut names = Vec::new(alloc);
     let mut leaves = Vec::new(alloc);
     let mut left_out = String::new(alloc);
@@ -46,7 +46,7 @@ fn told_of<'a>(alloc: Global, columns: &Columns<'a>) -> Result<Told<'a>, AllocEr
             }
         }
     }
-    Ok(Told {
+    Ok(ReadColumns {
         names,
         leaves,
         left_out,
@@ -63,11 +63,11 @@ fn show_file<F: Files, W: Sink>(
     let end = footer_end(rt, alloc, file)?;
     let data = file_of(alloc, footer_of(&end)?)?;
     let columns = columns_of(alloc, &data.schema)?;
-    let told = told_of(alloc, &columns)?;
-    let groups = groups_of(alloc, &told.leaves, columns.leaves, &data)?;
+    let read = read_columns(alloc, &columns)?;
+    let groups = groups_of(alloc, &read.leaves, columns.leaves, &data)?;
     Ok(
-        write_known(alloc, file, &told.names, &groups, writer)?
-            && write_out(writer, told.left_out.as_bytes()),
+        write_known(alloc, file, &read.names, &groups, writer)?
+            && write_out(writer, read.left_out.as_bytes()),
     )
 }
 
