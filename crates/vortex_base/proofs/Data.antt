@@ -7,7 +7,6 @@ pub mod MapLemmas
 pub mod NameSets
 pub mod NativeLemmas
 pub mod OrderLemmas
-pub mod PairLemmas
 pub mod PushLemmas
 pub mod RowLemmas
 pub mod ScopeLemmas

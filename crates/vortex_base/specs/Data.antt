@@ -1,15 +1,12 @@
 -- Types, values, columns and scopes.
 pub mod Blobs
-pub mod CellPairs
 pub mod Cells
 pub mod Columns
-pub mod Ends
 pub mod Exact
 pub mod Names
 pub mod Natives
 pub mod Neighbours
 pub mod Orders
-pub mod Pairs
 pub mod Repeated
 pub mod Scalars
 pub mod Scopes

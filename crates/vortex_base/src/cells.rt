@@ -6,8 +6,6 @@ ghost use Rattle.vortex_base.specs.Data.Columns.{all_fit, value_at};
 ghost use Rattle.vortex_base.specs.Data.Types.{has_null_alone};
 ghost use Rattle.vortex_base.specs.declared.scalar_value.ScalarValue.TheVariants as value;
 
-pub(crate) mod pair;
-
 use crate::blobs::{Blobs, BytesRef};
 use crate::dtype::DType;
 use crate::match_each_native;
@@ -20,7 +18,6 @@ use crate::texts::{TextRef, Texts};
 use crate::types::PType;
 use crate::value_ref::{ValueRef, fits, lend};
 use std::alloc::{AllocError, Global};
-use std::mem;
 
 /// A truth, a number or null.
 #[derive(Clone, Copy, Debug)]
@@ -108,16 +105,6 @@ impl ShortCell {
     }
 }
 
-// The optional value of an optional truth or number.
-fn native_value<T: Native>(native: Option<T>) -> Option<ScalarValue>
-    ensures { result ≡ option_map T.scalar native }
-{
-    match native {
-        Some(native) => Some(native.to_value()),
-        None => None,
-    }
-}
-
 // Returns an optional value, and `None` only where it is a value of another type.
 #[inline]
 fn native_of<T: Native>(value: &Option<ScalarValue>) -> Option<Option<T>>
@@ -167,24 +154,6 @@ fn set_native<T: Native>(natives: &mut Natives<T>, place: usize, native: Option<
     natives.set(place, native);
 }
 
-// Adds copies of the values of cells of this form, and nothing of others. Returns whether they are
-// of this form.
-#[inline]
-fn extend_natives<T: Native>(natives: &mut Natives<T>, others: &Cells) -> Result<bool, AllocError>
-    ensures extended { IfOk result (λ same. OnTrue same (map (option_map T.scalar) natives.new
-        ≡ map (option_map T.scalar) natives.old ++ cell_values others.now)) }
-    ensures unlike { IfOk result (λ same. OnFalse same (natives.new ≡ natives.old)) }
-    ensures refused { OnErr result (natives.new ≡ natives.old) }
-{
-    match T::of_cells(others) {
-        Some(others) => {
-            natives.extend_from(others)?;
-            Ok(true)
-        }
-        None => Ok(false),
-    }
-}
-
 // A column of `count` nulls of a type that can be set.
 fn null_natives<T: Native>(alloc: Global, count: usize) -> Result<Cells, AllocError>
     ensures { IfOk result (λ cells. cell_values cells ≡ replicate count None) }
@@ -198,36 +167,6 @@ fn room_for<T: Native>(alloc: Global, count: usize) -> Result<Cells, AllocError>
     ensures memory { OnErr result (0 < count) }
 {
     Ok(T::into_cells(Natives::with_capacity(alloc, count)?))
-}
-
-// The truths or numbers as values of any kind, with room for some more.
-fn widened_natives<T: Native>(
-    natives: &Natives<T>,
-    alloc: Global,
-    more: usize,
-) -> Result<Vec<Option<ScalarValue>>, AllocError>
-    ensures values { IfOk result (λ v. v.items ≡ map (option_map T.scalar) natives.now) }
-    ensures room { IfOk result (λ v. vec_len v + more ≤ vec_capacity v) }
-{
-    let mut values = Vec::with_capacity(alloc, natives.len())?;
-    for i in 0..natives.len() {
-        values.push(native_value(natives.get(i)))?;
-    }
-    values.reserve(more)?;
-    Ok(values)
-}
-
-// Nulls as values of any kind, with room for some more.
-fn widened_nulls(nulls: &Nulls, more: usize) -> Result<Vec<Option<ScalarValue>>, AllocError>
-    ensures values { IfOk result (λ v. v.items ≡ replicate nulls.now None) }
-    ensures room { IfOk result (λ v. vec_len v + more ≤ vec_capacity v) }
-{
-    let mut values = Vec::with_capacity(nulls.allocator(), nulls.count())?;
-    for _null in 0..nulls.count() {
-        values.push(None)?;
-    }
-    values.reserve(more)?;
-    Ok(values)
 }
 
 // The text of an optional value that is null or one.
@@ -310,46 +249,6 @@ fn copied(value: Option<ValueRef<'_>>) -> Result<Option<ScalarValue>, AllocError
     }
 }
 
-// The texts as values of any kind, with room for some more.
-fn widened_texts(texts: &Texts, more: usize) -> Result<Vec<Option<ScalarValue>>, AllocError>
-    ensures values { IfOk result (λ v. v.items ≡ map text_value texts.now) }
-    ensures room { IfOk result (λ v. vec_len v + more ≤ vec_capacity v) }
-{
-    let mut values = Vec::with_capacity(texts.allocator(), texts.len())?;
-    for i in 0..texts.len() {
-        values.push(copied(lend_text(texts, i))?)?;
-    }
-    values.reserve(more)?;
-    Ok(values)
-}
-
-// The byte strings as values of any kind, with room for some more.
-fn widened_bytes(blobs: &Blobs, more: usize) -> Result<Vec<Option<ScalarValue>>, AllocError>
-    ensures values { IfOk result (λ v. v.items ≡ map bytes_value blobs.now) }
-    ensures room { IfOk result (λ v. vec_len v + more ≤ vec_capacity v) }
-{
-    let mut values = Vec::with_capacity(blobs.allocator(), blobs.len())?;
-    for i in 0..blobs.len() {
-        values.push(copied(lend_bytes(blobs, i))?)?;
-    }
-    values.reserve(more)?;
-    Ok(values)
-}
-
-// Values of any kind with room for some more, taken from where they were.
-fn widened_any(
-    values: &mut Vec<Option<ScalarValue>>,
-    more: usize,
-) -> Result<Vec<Option<ScalarValue>>, AllocError>
-    ensures values { IfOk result (λ v. v.items ≡ values.old.items) }
-    ensures room { IfOk result (λ v. vec_len v + more ≤ vec_capacity v) }
-    ensures refused { OnErr result (values.new.items ≡ values.old.items) }
-{
-    values.reserve(more)?;
-    let alloc = *values.allocator();
-    Ok(mem::replace(values, Vec::new(alloc)))
-}
-
 impl Cells {
     /// No values yet, of a type that they will have.
     pub fn new(alloc: Global, dtype: DType) -> Cells
@@ -406,7 +305,7 @@ impl Cells {
             DType::Null | DType::MinMaxState(_, _) => Ok(Cells::Nulls(Nulls::new(alloc, count))),
             DType::Bool(_) => null_natives::<bool>(alloc, count),
             DType::Utf8(_) | DType::Binary(_) => {
-                Ok(Cells::Any(widened_nulls(&Nulls::new(alloc, count), 0)?))
+                Ok(Cells::Any(Cells::Nulls(Nulls::new(alloc, count)).widened()?))
             }
             DType::Primitive(ptype, _) => match ptype {
                 PType::U8 => null_natives::<u8>(alloc, count),
@@ -432,31 +331,46 @@ impl Cells {
             Cells::Binary(blobs) => blobs.truncate(len))
     }
 
-    // Adds copies of the values of other cells of the same form, but of none of any kind: to these,
-    // and to cells of another form, nothing is added. Returns whether the values were added.
-    #[inline]
-    pub(crate) fn extend_from(&mut self, others: &Cells) -> Result<bool, AllocError>
-        ensures extended { IfOk result (λ same. OnTrue same
-            (cell_values self.new ≡ cell_values self.old ++ cell_values others.now)) }
-        ensures unlike { IfOk result (λ same. OnFalse same
-            (cell_values self.new ≡ cell_values self.old)) }
+    // Adds copies of the values of other cells one by one. If memory is refused, the values are as
+    // they were.
+    fn push_each(&mut self, others: &Cells) -> Result<(), AllocError>
+        ensures pushed { OnOk result
+            (cell_values self.new ≡ cell_values self.old ++ cell_values others.now) }
         ensures refused { OnErr result (cell_values self.new ≡ cell_values self.old) }
     {
-        match_each_native!(self, natives => return extend_natives(natives, others),
-            Cells::Any(_) => return Ok(false),
-            Cells::Nulls(nulls) => match others {
-                Cells::Nulls(others) => nulls.extend_from(others)?,
-                _ => return Ok(false),
+        let len = self.len();
+        for i in 0..others.len() {
+            if let Err(refused) = self.push_lent(others.value_at(i)) {
+                self.truncate(len);
+                return Err(refused);
+            }
+        }
+        Ok(())
+    }
+
+    // Adds copies of the values of other cells, those of cells of the same form all at once. If
+    // memory is refused, the values are as they were.
+    #[tactic(auto, using(crate::proofs::Data::CellLemmas::more_nulls))]
+    pub(crate) fn extend_from(&mut self, others: &Cells) -> Result<(), AllocError>
+        ensures extended { OnOk result
+            (cell_values self.new ≡ cell_values self.old ++ cell_values others.now) }
+        ensures refused { OnErr result (cell_values self.new ≡ cell_values self.old) }
+    {
+        match_each_native!(self,
+            natives => if let Some(others) = Native::of_cells(others) {
+                return natives.extend_from(others);
             },
-            Cells::Texts(texts) => match others {
-                Cells::Texts(others) => texts.extend_from(others)?,
-                _ => return Ok(false),
+            Cells::Any(_) => {},
+            Cells::Nulls(nulls) => if let Cells::Nulls(others) = others {
+                return nulls.extend_from(others);
             },
-            Cells::Binary(blobs) => match others {
-                Cells::Binary(others) => blobs.extend_from(others)?,
-                _ => return Ok(false),
+            Cells::Texts(texts) => if let Cells::Texts(others) = others {
+                return texts.extend_from(others);
+            },
+            Cells::Binary(blobs) => if let Cells::Binary(others) = others {
+                return blobs.extend_from(others);
             });
-        Ok(true)
+        self.push_each(others)
     }
 
     /// Gives back the room that no value takes.
@@ -509,19 +423,25 @@ impl Cells {
             Cells::Binary(blobs) => all_bytes_fit(blobs, dtype))
     }
 
-    // The values as values of any kind, with room for some more. They are left where they were if
-    // memory is refused.
+    // The allocator of the values.
+    fn allocator(&self) -> Global {
+        match_each_native!(self, natives => natives.allocator(),
+            Cells::Any(values) => *values.allocator(),
+            Cells::Nulls(nulls) => nulls.allocator(),
+            Cells::Texts(texts) => texts.allocator(),
+            Cells::Binary(blobs) => blobs.allocator())
+    }
+
+    // Copies of the values, as values of any kind.
     #[inline(never)]
-    pub(crate) fn widened(&mut self, more: usize) -> Result<Vec<Option<ScalarValue>>, AllocError>
-        ensures values { IfOk result (λ v. v.items ≡ cell_values self.old) }
-        ensures room { IfOk result (λ v. vec_len v + more ≤ vec_capacity v) }
-        ensures refused { OnErr result (cell_values self.new ≡ cell_values self.old) }
+    fn widened(&self) -> Result<Vec<Option<ScalarValue>>, AllocError>
+        ensures { IfOk result (λ v. v.items ≡ cell_values self.now) }
     {
-        match_each_native!(self, natives => widened_natives(natives, natives.allocator(), more),
-            Cells::Any(values) => widened_any(values, more),
-            Cells::Nulls(nulls) => widened_nulls(nulls, more),
-            Cells::Texts(texts) => widened_texts(texts, more),
-            Cells::Binary(blobs) => widened_bytes(blobs, more))
+        let mut values = Vec::with_capacity(self.allocator(), self.len())?;
+        for i in 0..self.len() {
+            values.push(copied(self.value_at(i))?)?;
+        }
+        Ok(values)
     }
 
     // Adds a value of another kind than the cells are kept as.
@@ -530,8 +450,8 @@ impl Cells {
         ensures pushed { OnOk result (cell_values self.new ≡ cell_values self.old ++ value ∷ []) }
         ensures refused { OnErr result (cell_values self.new ≡ cell_values self.old) }
     {
-        let mut values = self.widened(1)?;
-        values.push_reserved(value);
+        let mut values = self.widened()?;
+        values.push(value)?;
         *self = Cells::Any(values);
         Ok(())
     }
@@ -603,7 +523,7 @@ impl Cells {
             (cell_values self.new ≡ slice_set (cell_values self.old) place value) }
         ensures refused { OnErr result (cell_values self.new ≡ cell_values self.old) }
     {
-        let mut values = self.widened(0)?;
+        let mut values = self.widened()?;
         values[place] = value;
         *self = Cells::Any(values);
         Ok(())

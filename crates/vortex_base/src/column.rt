@@ -4,7 +4,6 @@ ghost use Rattle.vortex_base.specs.Data.Cells.{cell_values, value_of};
 ghost use Rattle.vortex_base.specs.Data.Columns.{all_fit, column_of, value_at, IsColumn};
 
 mod append;
-mod pair;
 mod push;
 
 use crate::cells::Cells;

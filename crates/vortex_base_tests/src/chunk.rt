@@ -1,9 +1,10 @@
 //! Tests of `chunk`.
-use crate::testing::{self, BOOL};
+use crate::testing::{self, BOOL, UTF8_OR_NULL};
 use std::alloc::Global;
 use std::test::Fail;
 use vortex_base::{
-    BaseError, Chunk, Column, DType, Native, Nullability, PType, ScalarValue, Scope, ValueRef,
+    BaseError, Cells, Chunk, Column, DType, Native, Nullability, PType, ScalarValue, Scope,
+    ValueRef,
 };
 
 const NUMBER: DType = DType::Primitive(PType::I64, Nullability::Nullable);
@@ -122,4 +123,64 @@ fn append_a_hundred_thousand_columns(rt: HostRuntime) {
     assert!(rt; chunk.sizes_fit(&other));
     chunk.append(&mut other).expect(&rt, "appended");
     assert!(rt; are_rows(&chunk, 2, 2) && are_rows(&other, 0, 0));
+}
+
+// The column of two texts, in cells of texts or as values of any kind.
+fn two_texts(alloc: Global, is_typed: bool) -> Result<Column, BaseError> {
+    let mut cells = Cells::Any(Vec::new(alloc));
+    if is_typed {
+        cells = Cells::new(alloc, UTF8_OR_NULL);
+    }
+    cells.push(Some(testing::text_value(alloc, "a")?))?;
+    cells.push(Some(testing::text_value(alloc, "b")?))?;
+    Column::of_cells(UTF8_OR_NULL, cells, 2)
+}
+
+// Two rows of texts, each column in cells of texts or as values of any kind.
+fn texts(alloc: Global, forms: &[bool]) -> Result<Chunk, BaseError> {
+    let mut columns = Vec::new(alloc);
+    for is_typed in forms {
+        columns.push(two_texts(alloc, *is_typed)?)?;
+    }
+    let names = ["a", "b", "c", "d"].map(|name| (name, UTF8_OR_NULL));
+    Chunk::try_new(testing::scope(alloc, &names)?, columns)
+}
+
+// Whether the values are the two texts by turns.
+fn are_by_turns(column: &Column) -> bool {
+    for row in 0..column.len() {
+        let wanted = if row % 2 == 0 { "a" } else { "b" };
+        match column.get(row) {
+            Some(ValueRef::Utf8(text)) if text.as_str() == wanted => {}
+            _ => return false,
+        }
+    }
+    true
+}
+
+// Whether each column has so many rows of the two texts and this size.
+fn are_texts(chunk: &Chunk, rows: usize, size: u64) -> bool {
+    are_rows(chunk, rows, size)
+        && (0..chunk.scope().len()).all(|place| are_by_turns(chunk.column(place)))
+}
+
+// Whether the rows were moved, or memory was refused and both chunks are as they were.
+fn is_appended(told: Result<(), BaseError>, chunk: &Chunk, other: &Chunk) -> bool {
+    match told {
+        Ok(()) => are_texts(chunk, 4, 4) && are_rows(other, 0, 0),
+        Err(BaseError::Memory(_)) => are_texts(chunk, 2, 2) && are_texts(other, 2, 2),
+        Err(_) => false,
+    }
+}
+
+#[test]
+fn refused_appends_change_nothing(rt: HostRuntime) -> Result<(), Fail> {
+    let alloc = rt.alloc();
+    let mut chunk = texts(alloc, &[true, false, true, false])?;
+    let mut other = texts(alloc, &[true, false, false, true])?;
+    assert!(rt; *chunk.scope() == *other.scope());
+    assert!(rt; chunk.sizes_fit(&other));
+    let told = chunk.append(&mut other);
+    assert!(rt; is_appended(told, &chunk, &other));
+    Ok(())
 }

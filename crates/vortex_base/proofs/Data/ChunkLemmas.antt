@@ -3,7 +3,7 @@ use Rattle.std.proofs.Common.{◌≡◌, ℕ, ◌+◌, ◌==◌, true, List, Opt
 use Rattle.std.proofs.lemmas.Bool.Decides.{nat_tests}
 use Rattle.std.proofs.lemmas.List.{length-append, length-map}
 use Rattle.std.specs.List.{list_all}
-use Rattle.vortex_base.proofs.Data.AppendLemmas.{same_type, both_fit}
+use Rattle.vortex_base.proofs.Data.AppendLemmas.{both_fit, length-all_appended, same_type}
 use Rattle.vortex_base.specs.Data.Columns.{ChunkData, ColumnData, IsChunk, all_appended, all_long, appended_chunk, can_append, emptied, emptied_chunk, has_types, is_column, row_count, row_fits, sizes_fit, with_row}
 use Rattle.vortex_base.specs.Data.Exact.{both_hold, both_true}
 use Rattle.vortex_base.specs.Data.Scalars.{is_optional_value}
@@ -34,12 +34,6 @@ may_append (s ∷ ss) (c ∷ cs) (d ∷ ds) p q r =
     let dq = both_true _ _ q in
     let sr = both_true _ _ r in
     both_hold _ _ (both_hold _ _ (types_meet s.1 c.dtype d.dtype cp.0 dq.0) sr.0) (may_append ss cs ds cp.1 dq.1 sr.1)
-
-length-all_appended : (cs ds : List ColumnData) → length (all_appended cs ds) ≡ length cs
-length-all_appended [] [] = refl
-length-all_appended [] (d ∷ ds) = refl
-length-all_appended (c ∷ cs) [] = refl
-length-all_appended (c ∷ cs) (d ∷ ds) = ap suc (length-all_appended cs ds)
 
 all_long-all_appended : (m n : ℕ) (cs ds : List ColumnData) → can_append cs ds ≡ true → all_long m cs ≡ true → all_long n ds ≡ true → all_long (m + n) (all_appended cs ds) ≡ true
 all_long-all_appended m n [] [] h p q = refl

@@ -1,64 +1,81 @@
 //! The values of columns moved behind those of others, of all columns or of none.
-ghost use Rattle.std.specs.Prelude.{◌≡◌, ◌+◌, ◌≤◌, ◌++◌, [], IsTrue, OnErr, OnOk, map, reverse, vec_capacity, vec_len};
-ghost use Rattle.vortex_base.specs.Data.Columns.{all_appended, can_append, emptied};
-ghost use Rattle.vortex_base.specs.Data.Pairs.{first_after, first_of, second_after, second_of};
+ghost use Rattle.std.specs.Prelude.{◌≡◌, ◌≤◌, ◌∷◌, [], IsTrue, List, OnErr, OnOk, length, map, take};
+ghost use Rattle.vortex_base.specs.Data.Columns.{ColumnData, all_appended, appended, can_append, emptied};
 
 use crate::column::Column;
-use crate::column::pair::Pair;
 use std::alloc::AllocError;
 
-// Takes both lists apart from their ends and makes room in each pair, up to one whose room is
-// refused.
-fn pair_up(
-    columns: &mut Vec<Column>,
-    others: &mut Vec<Column>,
-    pairs: &mut Vec<Pair>,
-) -> Result<(), AllocError>
-    requires can { IsTrue (can_append columns.old.items others.old.items) }
-    requires none { pairs.old.items ≡ [] }
-    requires room { vec_len columns.old ≤ vec_capacity pairs.old }
-    ensures columns { columns.new.items ++ reverse (map first_of pairs.new.items)
-        ≡ columns.old.items }
-    ensures others { others.new.items ++ reverse (map second_of pairs.new.items)
-        ≡ others.old.items }
-    ensures columns_room { vec_len columns.new + vec_len pairs.new ≤ vec_capacity columns.new }
-    ensures others_room { vec_len others.new + vec_len pairs.new ≤ vec_capacity others.new }
-    ensures all { OnOk result ((columns.new.items ≡ []) × (others.new.items ≡ [])) }
+impl Column {
+    // Adds copies of the values of another column of the same type, and the other's size.
+    fn extend_from(&mut self, other: &Column) -> Result<(), AllocError>
+        requires { IsTrue (can_append (self.old ∷ []) (other.now ∷ [])) }
+        ensures extended { OnOk result (self.new ≡ appended self.old other.now) }
+        ensures refused { OnErr result (self.new ≡ self.old) }
+    {
+        self.cells.extend_from(&other.cells)?;
+        self.size += other.size;
+        Ok(())
+    }
+
+    // Drops the copies of another column's values, which were added last, and the other's size.
+    fn take_back(&mut self, other: &Column)
+        requires { (c : ColumnData) × (appended c other.now ≡ self.old) }
+        ensures { (c : ColumnData) → appended c other.now ≡ self.old → self.new ≡ c }
+    {
+        self.cells.truncate(self.cells.len() - other.cells.len());
+        self.size -= other.size;
+    }
+
+    // Drops all values, and with them the size.
+    fn clear(&mut self)
+        ensures { self.new ≡ emptied self.old }
+    {
+        self.cells.truncate(0);
+        self.size = 0;
+    }
+}
+
+// Takes back from the first columns, of this number, what was added of those beside them.
+fn take_back_each(columns: &mut [Column], others: &[Column], count: usize)
+    requires added { (cs : List ColumnData)
+        × (all_appended cs (take count others.now) ≡ columns.old) }
+    requires columns { count ≤ length columns.old }
+    requires others { count ≤ length others.now }
+    ensures { (cs : List ColumnData)
+        → all_appended cs (take count others.now) ≡ columns.old → columns.new ≡ cs }
 {
-    while let Some(column) = columns.pop() {
-        let Some(other) = others.pop() else {
-            unreachable!();
-        };
-        match Pair::try_new(column, other) {
-            Ok(pair) => pairs.push_reserved(pair),
-            Err((column, other)) => {
-                columns.push_reserved(column);
-                others.push_reserved(other);
-                return Err(AllocError);
-            }
+    for place in (0..count).rev() {
+        columns[place].take_back(&others[place]);
+    }
+}
+
+// Adds to each column copies of the values of the one beside it, and its size. Where memory is
+// refused, what was added is taken back.
+fn extend_each(columns: &mut [Column], others: &[Column]) -> Result<(), AllocError>
+    requires { IsTrue (can_append columns.old others.now) }
+    ensures extended { OnOk result (columns.new ≡ all_appended columns.old others.now) }
+    ensures refused { OnErr result (columns.new ≡ columns.old) }
+{
+    for place in 0..others.len() {
+        if let Err(refused) = columns[place].extend_from(&others[place]) {
+            take_back_each(columns, others, place);
+            return Err(refused);
         }
     }
     Ok(())
 }
 
-// Puts each pair back behind the columns, where `moved` says so with the values moved.
-fn put_back(columns: &mut Vec<Column>, others: &mut Vec<Column>, mut pairs: Vec<Pair>, moved: bool)
-    requires columns { vec_len columns.old + vec_len pairs ≤ vec_capacity columns.old }
-    requires others { vec_len others.old + vec_len pairs ≤ vec_capacity others.old }
-    ensures columns { columns.new.items
-        ≡ columns.old.items ++ reverse (map (first_after moved) pairs.items) }
-    ensures others { others.new.items
-        ≡ others.old.items ++ reverse (map (second_after moved) pairs.items) }
+// Drops the values of each column, and with them its size.
+fn clear_each(columns: &mut [Column])
+    ensures { columns.new ≡ map emptied columns.old }
 {
-    while let Some(pair) = pairs.pop() {
-        let (column, other) = if moved { pair.appended() } else { pair.apart() };
-        columns.push_reserved(column);
-        others.push_reserved(other);
+    for column in columns.iter_mut() {
+        column.clear();
     }
 }
 
 // Moves the values of each other column behind those of the column beside it, and with them its
-// size. All room is made first, so that nothing has moved where memory is refused.
+// size. All values are copied first, so that nothing has moved where memory is refused.
 pub(crate) fn append_all(
     columns: &mut Vec<Column>,
     others: &mut Vec<Column>,
@@ -70,8 +87,7 @@ pub(crate) fn append_all(
     ensures columns { OnErr result (columns.new.items ≡ columns.old.items) }
     ensures others { OnErr result (others.new.items ≡ others.old.items) }
 {
-    let mut pairs = Vec::with_capacity(*columns.allocator(), columns.len())?;
-    let made = pair_up(columns, others, &mut pairs);
-    put_back(columns, others, pairs, made.is_ok());
-    made
+    extend_each(columns, others)?;
+    clear_each(others);
+    Ok(())
 }

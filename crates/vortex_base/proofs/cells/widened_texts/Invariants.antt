@@ -1,7 +1,0 @@
-use Rattle.std.proofs.Common.{◌≡◌, map, take}
-use Rattle.vortex_base.specs.Data.Cells.{text_value}
-use Rattle.vortex_base.proofs.cells.widened_texts.Given as goal
-
--- the values so far
-abbrev pub invariant-loop-i : goal.invariant-loop-i
-invariant-loop-i l = l.values.items ≡ take l.i (map text_value l.texts)
