@@ -33,7 +33,7 @@ CODE = {f: text for f, text in TEXTS.items() if f.endswith(".rt")}
 # A trait may be imported for its methods alone.
 TRAITS = {"BufRead", "Read", "Write"} | {name for text in CODE.values() for name in re.findall(r"^pub trait (\w+)", text, re.M)}
 # The crates whose public clauses have a witness wherever they have a premise.
-WITNESSED = ("vortex_zone_map", "vortex_prune", "vortex_predicates", "vortex_calls", "vortex_text")
+WITNESSED = ("vortex_zone_map", "vortex_prune", "vortex_predicates", "vortex_capi", "vortex_text")
 
 
 def is_listed(f):

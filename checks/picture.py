@@ -162,7 +162,7 @@ def zone_map():
     boxes = [
         (0, 20, ["chunk of columns", "StatsSet::of_column", "vortex_stats"]),
         (0, 115, ["statistics one by one", "ZoneMapBuilder::put", "vortex_zone_map"]),
-        (0, 210, ["arrays of a caller", "batches", "vortex_calls"]),
+        (0, 210, ["arrays of a caller", "batches", "vortex_capi"]),
         (0, 305, ["bytes of a footer", "groups_of", "vortex_parquet"]),
         (1, 20, ["Zone", "rows, a set a column", "vortex_zone_map"]),
         (1, 305, ["row group", "map_of", "vortex_predicates"]),

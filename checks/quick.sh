@@ -13,7 +13,7 @@ case "$crate" in
     vortex_normal) tests=vortex_rewrite_tests ;;
     vortex_syntax) tests=vortex_text_tests ;;
     vortex_predicates | vortex_zone_map) tests=vortex_prune_tests ;;
-    vortex_parquet | vortex_sql) tests=vortex_calls_tests ;;
+    vortex_parquet | vortex_sql) tests=vortex_capi_tests ;;
     *) tests="${crate}_tests" ;;
 esac
 [ -d "crates/$tests" ] || tests="$crate"

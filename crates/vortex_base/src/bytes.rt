@@ -8,8 +8,8 @@ ghost use Rattle.std.specs.Cmp.{partial_order_from_own_ties};
 ghost use Rattle.std.proofs.Common.{rules};
 ghost use lib.Pointwise.{pointwise};
 
-use crate::blobs::BytesRef;
 use crate::error::BaseError;
+use crate::var_bin_array::BytesRef;
 use std::alloc::AllocError;
 use std::cmp::Ordering;
 use std::marker::Model;

@@ -1,16 +1,16 @@
 //! The values of a column.
 ghost use Rattle.std.specs.Prelude.{◌≡◌, ◌<◌, IfSome, IsTrue, length, map, option_map, slice_get, Some};
-ghost use Rattle.vortex_base.specs.Data.Cells.{cell_values, value_of};
+ghost use Rattle.vortex_base.specs.Data.ArrayData.{cell_values, value_of};
 ghost use Rattle.vortex_base.specs.Data.Columns.{all_fit, column_of, value_at, IsColumn};
 
 mod append;
 mod push;
 
-use crate::cells::Cells;
+use crate::array_data::ArrayData;
 use crate::dtype::DType;
 use crate::error::BaseError;
 use crate::native::Native;
-use crate::natives::Natives;
+use crate::primitive_array::PrimitiveArray;
 use crate::scalar_value::ScalarValue;
 use crate::value_ref::ValueRef;
 pub(crate) use append::append_all;
@@ -21,13 +21,13 @@ use std::marker::Model;
 #[derive(Debug, Drop)]
 pub struct Column {
     dtype: DType,
-    cells: Cells,
+    cells: ArrayData,
     size: u64,
 }
 
 impl Model for Column {
     ghost use Rattle.std.specs.Prelude.{IsTrue};
-    ghost use Rattle.vortex_base.specs.Data.Cells.{cell_values};
+    ghost use Rattle.vortex_base.specs.Data.ArrayData.{cell_values};
     ghost use Rattle.vortex_base.specs.Data.Columns.{ColumnData, all_fit};
 
     ghost Value = { ColumnData };
@@ -42,8 +42,8 @@ impl Column {
     /// `Mismatch` if a value does not fit the type, or a null stands where the type has none.
     ///
     /// The values stay in the vector that was handed in, 40 bytes each, so that no memory is taken.
-    /// `Cells::new` and `Cells::push`, or `Natives`, keep truths and numbers in a vector of their
-    /// own type, and `of_cells` makes the column of them.
+    /// `ArrayData::new` and `ArrayData::push`, or `PrimitiveArray`, keep truths and numbers in a
+    /// vector of their own type, and `of_cells` makes the column of them.
     pub fn try_new(
         dtype: DType,
         values: Vec<Option<ScalarValue>>,
@@ -51,12 +51,12 @@ impl Column {
     ) -> Result<Column, BaseError>
         ensures { result ≡ column_of dtype values.items size }
     {
-        Column::of_cells(dtype, Cells::Any(values), size)
+        Column::of_cells(dtype, ArrayData::Any(values), size)
     }
 
     /// The column of values that are known to fit the type, as their reader has tested each, or as
-    /// `Cells::fits` tells.
-    pub fn new_unchecked(dtype: DType, cells: Cells, size: u64) -> Column
+    /// `ArrayData::fits` tells.
+    pub fn new_unchecked(dtype: DType, cells: ArrayData, size: u64) -> Column
         requires { IsTrue (all_fit dtype (cell_values cells)) }
         ensures { result ≡ record { dtype = dtype; values = cell_values cells; size = size } }
     {
@@ -66,7 +66,7 @@ impl Column {
     /// The column of a type, its values as they are kept, and its size in bytes, which is taken as
     /// declared. `Mismatch` if a value does not fit the type, or a null stands where the type has
     /// none.
-    pub fn of_cells(dtype: DType, cells: Cells, size: u64) -> Result<Column, BaseError>
+    pub fn of_cells(dtype: DType, cells: ArrayData, size: u64) -> Result<Column, BaseError>
         ensures { result ≡ column_of dtype (cell_values cells) size }
     {
         if !cells.fits(&dtype) {
@@ -98,15 +98,15 @@ impl Column {
     }
 
     /// The values as they are kept.
-    pub fn cells(&self) -> &Cells
+    pub fn cells(&self) -> &ArrayData
         ensures { cell_values result.now ≡ self.now.values }
     {
         &self.cells
     }
 
     /// The values of a column of truths or numbers of one type, if they are kept as such: all that
-    /// were pushed to `Cells::new` of its type are. `as_slices` lends them.
-    pub fn natives<T: Native>(&self) -> Option<&Natives<T>>
+    /// were pushed to `ArrayData::new` of its type are. `as_slices` lends them.
+    pub fn natives<T: Native>(&self) -> Option<&PrimitiveArray<T>>
         ensures { IfSome result (λ natives.
             self.entry.now.values ≡ map (option_map T.scalar) natives.now) }
     {

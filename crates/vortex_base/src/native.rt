@@ -1,8 +1,8 @@
 //! Truths and numbers, each of a type of its own.
 ghost use Rattle.std.specs.Prelude.{◌≡◌};
 
-use crate::cells::{Cells, ShortCell};
-use crate::natives::Natives;
+use crate::array_data::{ArrayData, PrimitiveScalar};
+use crate::primitive_array::PrimitiveArray;
 use crate::pvalue::PValue;
 use crate::scalar_value::ScalarValue;
 use crate::value_ref::ValueRef;
@@ -14,15 +14,15 @@ use std::cmp::Ordering;
 macro_rules! match_each_native {
     ($cells:expr, $natives:ident => $each:expr, $($other:pat => $made:expr),+) => {
         match $cells {
-            $crate::cells::Cells::Bool($natives) => $each,
-            $crate::cells::Cells::U8($natives) => $each,
-            $crate::cells::Cells::U16($natives) => $each,
-            $crate::cells::Cells::U32($natives) => $each,
-            $crate::cells::Cells::U64($natives) => $each,
-            $crate::cells::Cells::I8($natives) => $each,
-            $crate::cells::Cells::I16($natives) => $each,
-            $crate::cells::Cells::I32($natives) => $each,
-            $crate::cells::Cells::I64($natives) => $each,
+            $crate::array_data::ArrayData::Bool($natives) => $each,
+            $crate::array_data::ArrayData::U8($natives) => $each,
+            $crate::array_data::ArrayData::U16($natives) => $each,
+            $crate::array_data::ArrayData::U32($natives) => $each,
+            $crate::array_data::ArrayData::U64($natives) => $each,
+            $crate::array_data::ArrayData::I8($natives) => $each,
+            $crate::array_data::ArrayData::I16($natives) => $each,
+            $crate::array_data::ArrayData::I32($natives) => $each,
+            $crate::array_data::ArrayData::I64($natives) => $each,
             $($other => $made),+
         }
     };
@@ -33,15 +33,15 @@ macro_rules! match_each_native {
 pub trait Native: Copy + Default {
     ghost use Rattle.std.specs.Prelude.{◌≡◌, ◌≢◌, IfSome, List, MatchOption, Option, map};
     ghost use Rattle.std.specs.Prelude.{option_map};
-    ghost use Rattle.vortex_base.specs.Data.Cells.{cell_values, short_value, value_of};
+    ghost use Rattle.vortex_base.specs.Data.ArrayData.{cell_values, short_value, value_of};
     ghost use Rattle.vortex_base.specs.Data.Values.{value_cmp};
-    ghost use Rattle.vortex_base.specs.declared.cells.Cells.{Cells};
+    ghost use Rattle.vortex_base.specs.declared.array_data.ArrayData.{ArrayData};
     ghost use Rattle.vortex_base.specs.declared.scalar_value.ScalarValue.{ScalarValue};
 
     ghost scalar: { Self → ScalarValue };
 
     // Cells that are kept as this type.
-    ghost kept: { List (Option Self) → Cells };
+    ghost kept: { List (Option Self) → ArrayData };
 
     /// The value, lent.
     fn lend<'a>(self) -> ValueRef<'a>
@@ -66,18 +66,18 @@ pub trait Native: Copy + Default {
             (λ native. scalar native ≡ value.now) };
 
     /// Returns a cell, null or a value, and `None` only where it is a value of another type.
-    fn of_cell(cell: ShortCell) -> Option<Option<Self>>
+    fn of_cell(cell: PrimitiveScalar) -> Option<Option<Self>>
         ensures { MatchOption result
             ((native : Option Self) → option_map scalar native ≢ short_value cell)
             (λ native. option_map scalar native ≡ short_value cell) };
 
     /// Values of this type as those of a column, kept as this type.
-    fn into_cells(natives: Natives<Self>) -> Cells
+    fn into_cells(natives: PrimitiveArray<Self>) -> ArrayData
         ensures values { cell_values result ≡ map (option_map scalar) natives }
         ensures form { result ≡ kept natives };
 
     /// The values of a column, and `None` only where they aren't kept as this type.
-    fn of_cells(cells: &Cells) -> Option<&Natives<Self>>
+    fn of_cells(cells: &ArrayData) -> Option<&PrimitiveArray<Self>>
         ensures values { IfSome result (λ natives.
             cell_values cells.entry.now ≡ map (option_map scalar) natives.now) }
         ensures form { MatchOption result
@@ -87,8 +87,8 @@ pub trait Native: Copy + Default {
 
 impl Native for bool {
     ghost use Rattle.std.specs.Prelude.{◌≡◌, map, option_map};
-    ghost use Rattle.vortex_base.specs.Data.Cells.{cell_values};
-    ghost use Rattle.vortex_base.specs.declared.cells.Cells.TheVariants as kept_cells;
+    ghost use Rattle.vortex_base.specs.Data.ArrayData.{cell_values};
+    ghost use Rattle.vortex_base.specs.declared.array_data.ArrayData.TheVariants as kept_cells;
     ghost use Rattle.vortex_base.specs.declared.scalar_value.ScalarValue.TheVariants as value;
 
     ghost scalar = { value.Bool };
@@ -127,25 +127,25 @@ impl Native for bool {
     }
 
     #[inline]
-    fn of_cell(cell: ShortCell) -> Option<Option<bool>> {
+    fn of_cell(cell: PrimitiveScalar) -> Option<Option<bool>> {
         match cell {
-            ShortCell::Bool(truth) => Some(Some(truth)),
-            ShortCell::Null => Some(None),
+            PrimitiveScalar::Bool(truth) => Some(Some(truth)),
+            PrimitiveScalar::Null => Some(None),
             _ => None,
         }
     }
 
-    fn into_cells(natives: Natives<bool>) -> Cells
+    fn into_cells(natives: PrimitiveArray<bool>) -> ArrayData
         ensures values { cell_values result ≡ map (option_map value.Bool) natives }
         ensures form { result ≡ kept_cells.Bool natives }
     {
-        Cells::Bool(natives)
+        ArrayData::Bool(natives)
     }
 
     #[inline]
-    fn of_cells(cells: &Cells) -> Option<&Natives<bool>> {
+    fn of_cells(cells: &ArrayData) -> Option<&PrimitiveArray<bool>> {
         match cells {
-            Cells::Bool(natives) => Some(natives),
+            ArrayData::Bool(natives) => Some(natives),
             _ => None,
         }
     }
@@ -154,8 +154,8 @@ impl Native for bool {
 impl Native for u8 {
     ghost use Rattle.vortex_base.specs.declared.pvalue.PValue.TheVariants as number;
     ghost use Rattle.std.specs.Prelude.{◌≡◌, map, option_map};
-    ghost use Rattle.vortex_base.specs.Data.Cells.{cell_values};
-    ghost use Rattle.vortex_base.specs.declared.cells.Cells.TheVariants as kept_cells;
+    ghost use Rattle.vortex_base.specs.Data.ArrayData.{cell_values};
+    ghost use Rattle.vortex_base.specs.declared.array_data.ArrayData.TheVariants as kept_cells;
     ghost use Rattle.vortex_base.specs.declared.scalar_value.ScalarValue.TheVariants as value;
 
     ghost scalar = { λ n. value.Primitive (number.U8 n) };
@@ -194,26 +194,26 @@ impl Native for u8 {
     }
 
     #[inline]
-    fn of_cell(cell: ShortCell) -> Option<Option<u8>> {
+    fn of_cell(cell: PrimitiveScalar) -> Option<Option<u8>> {
         match cell {
-            ShortCell::U8(n) => Some(Some(n)),
-            ShortCell::Null => Some(None),
+            PrimitiveScalar::U8(n) => Some(Some(n)),
+            PrimitiveScalar::Null => Some(None),
             _ => None,
         }
     }
 
-    fn into_cells(natives: Natives<u8>) -> Cells
+    fn into_cells(natives: PrimitiveArray<u8>) -> ArrayData
         ensures values { cell_values result
             ≡ map (option_map (λ n. value.Primitive (number.U8 n))) natives }
         ensures form { result ≡ kept_cells.U8 natives }
     {
-        Cells::U8(natives)
+        ArrayData::U8(natives)
     }
 
     #[inline]
-    fn of_cells(cells: &Cells) -> Option<&Natives<u8>> {
+    fn of_cells(cells: &ArrayData) -> Option<&PrimitiveArray<u8>> {
         match cells {
-            Cells::U8(natives) => Some(natives),
+            ArrayData::U8(natives) => Some(natives),
             _ => None,
         }
     }
@@ -222,8 +222,8 @@ impl Native for u8 {
 impl Native for u16 {
     ghost use Rattle.vortex_base.specs.declared.pvalue.PValue.TheVariants as number;
     ghost use Rattle.std.specs.Prelude.{◌≡◌, map, option_map};
-    ghost use Rattle.vortex_base.specs.Data.Cells.{cell_values};
-    ghost use Rattle.vortex_base.specs.declared.cells.Cells.TheVariants as kept_cells;
+    ghost use Rattle.vortex_base.specs.Data.ArrayData.{cell_values};
+    ghost use Rattle.vortex_base.specs.declared.array_data.ArrayData.TheVariants as kept_cells;
     ghost use Rattle.vortex_base.specs.declared.scalar_value.ScalarValue.TheVariants as value;
 
     ghost scalar = { λ n. value.Primitive (number.U16 n) };
@@ -262,26 +262,26 @@ impl Native for u16 {
     }
 
     #[inline]
-    fn of_cell(cell: ShortCell) -> Option<Option<u16>> {
+    fn of_cell(cell: PrimitiveScalar) -> Option<Option<u16>> {
         match cell {
-            ShortCell::U16(n) => Some(Some(n)),
-            ShortCell::Null => Some(None),
+            PrimitiveScalar::U16(n) => Some(Some(n)),
+            PrimitiveScalar::Null => Some(None),
             _ => None,
         }
     }
 
-    fn into_cells(natives: Natives<u16>) -> Cells
+    fn into_cells(natives: PrimitiveArray<u16>) -> ArrayData
         ensures values { cell_values result
             ≡ map (option_map (λ n. value.Primitive (number.U16 n))) natives }
         ensures form { result ≡ kept_cells.U16 natives }
     {
-        Cells::U16(natives)
+        ArrayData::U16(natives)
     }
 
     #[inline]
-    fn of_cells(cells: &Cells) -> Option<&Natives<u16>> {
+    fn of_cells(cells: &ArrayData) -> Option<&PrimitiveArray<u16>> {
         match cells {
-            Cells::U16(natives) => Some(natives),
+            ArrayData::U16(natives) => Some(natives),
             _ => None,
         }
     }
@@ -290,8 +290,8 @@ impl Native for u16 {
 impl Native for u32 {
     ghost use Rattle.vortex_base.specs.declared.pvalue.PValue.TheVariants as number;
     ghost use Rattle.std.specs.Prelude.{◌≡◌, map, option_map};
-    ghost use Rattle.vortex_base.specs.Data.Cells.{cell_values};
-    ghost use Rattle.vortex_base.specs.declared.cells.Cells.TheVariants as kept_cells;
+    ghost use Rattle.vortex_base.specs.Data.ArrayData.{cell_values};
+    ghost use Rattle.vortex_base.specs.declared.array_data.ArrayData.TheVariants as kept_cells;
     ghost use Rattle.vortex_base.specs.declared.scalar_value.ScalarValue.TheVariants as value;
 
     ghost scalar = { λ n. value.Primitive (number.U32 n) };
@@ -330,26 +330,26 @@ impl Native for u32 {
     }
 
     #[inline]
-    fn of_cell(cell: ShortCell) -> Option<Option<u32>> {
+    fn of_cell(cell: PrimitiveScalar) -> Option<Option<u32>> {
         match cell {
-            ShortCell::U32(n) => Some(Some(n)),
-            ShortCell::Null => Some(None),
+            PrimitiveScalar::U32(n) => Some(Some(n)),
+            PrimitiveScalar::Null => Some(None),
             _ => None,
         }
     }
 
-    fn into_cells(natives: Natives<u32>) -> Cells
+    fn into_cells(natives: PrimitiveArray<u32>) -> ArrayData
         ensures values { cell_values result
             ≡ map (option_map (λ n. value.Primitive (number.U32 n))) natives }
         ensures form { result ≡ kept_cells.U32 natives }
     {
-        Cells::U32(natives)
+        ArrayData::U32(natives)
     }
 
     #[inline]
-    fn of_cells(cells: &Cells) -> Option<&Natives<u32>> {
+    fn of_cells(cells: &ArrayData) -> Option<&PrimitiveArray<u32>> {
         match cells {
-            Cells::U32(natives) => Some(natives),
+            ArrayData::U32(natives) => Some(natives),
             _ => None,
         }
     }
@@ -358,8 +358,8 @@ impl Native for u32 {
 impl Native for u64 {
     ghost use Rattle.vortex_base.specs.declared.pvalue.PValue.TheVariants as number;
     ghost use Rattle.std.specs.Prelude.{◌≡◌, map, option_map};
-    ghost use Rattle.vortex_base.specs.Data.Cells.{cell_values};
-    ghost use Rattle.vortex_base.specs.declared.cells.Cells.TheVariants as kept_cells;
+    ghost use Rattle.vortex_base.specs.Data.ArrayData.{cell_values};
+    ghost use Rattle.vortex_base.specs.declared.array_data.ArrayData.TheVariants as kept_cells;
     ghost use Rattle.vortex_base.specs.declared.scalar_value.ScalarValue.TheVariants as value;
 
     ghost scalar = { λ n. value.Primitive (number.U64 n) };
@@ -398,26 +398,26 @@ impl Native for u64 {
     }
 
     #[inline]
-    fn of_cell(cell: ShortCell) -> Option<Option<u64>> {
+    fn of_cell(cell: PrimitiveScalar) -> Option<Option<u64>> {
         match cell {
-            ShortCell::U64(n) => Some(Some(n)),
-            ShortCell::Null => Some(None),
+            PrimitiveScalar::U64(n) => Some(Some(n)),
+            PrimitiveScalar::Null => Some(None),
             _ => None,
         }
     }
 
-    fn into_cells(natives: Natives<u64>) -> Cells
+    fn into_cells(natives: PrimitiveArray<u64>) -> ArrayData
         ensures values { cell_values result
             ≡ map (option_map (λ n. value.Primitive (number.U64 n))) natives }
         ensures form { result ≡ kept_cells.U64 natives }
     {
-        Cells::U64(natives)
+        ArrayData::U64(natives)
     }
 
     #[inline]
-    fn of_cells(cells: &Cells) -> Option<&Natives<u64>> {
+    fn of_cells(cells: &ArrayData) -> Option<&PrimitiveArray<u64>> {
         match cells {
-            Cells::U64(natives) => Some(natives),
+            ArrayData::U64(natives) => Some(natives),
             _ => None,
         }
     }
@@ -426,8 +426,8 @@ impl Native for u64 {
 impl Native for i8 {
     ghost use Rattle.vortex_base.specs.declared.pvalue.PValue.TheVariants as number;
     ghost use Rattle.std.specs.Prelude.{◌≡◌, map, option_map};
-    ghost use Rattle.vortex_base.specs.Data.Cells.{cell_values};
-    ghost use Rattle.vortex_base.specs.declared.cells.Cells.TheVariants as kept_cells;
+    ghost use Rattle.vortex_base.specs.Data.ArrayData.{cell_values};
+    ghost use Rattle.vortex_base.specs.declared.array_data.ArrayData.TheVariants as kept_cells;
     ghost use Rattle.vortex_base.specs.declared.scalar_value.ScalarValue.TheVariants as value;
 
     ghost scalar = { λ n. value.Primitive (number.I8 n) };
@@ -466,26 +466,26 @@ impl Native for i8 {
     }
 
     #[inline]
-    fn of_cell(cell: ShortCell) -> Option<Option<i8>> {
+    fn of_cell(cell: PrimitiveScalar) -> Option<Option<i8>> {
         match cell {
-            ShortCell::I8(n) => Some(Some(n)),
-            ShortCell::Null => Some(None),
+            PrimitiveScalar::I8(n) => Some(Some(n)),
+            PrimitiveScalar::Null => Some(None),
             _ => None,
         }
     }
 
-    fn into_cells(natives: Natives<i8>) -> Cells
+    fn into_cells(natives: PrimitiveArray<i8>) -> ArrayData
         ensures values { cell_values result
             ≡ map (option_map (λ n. value.Primitive (number.I8 n))) natives }
         ensures form { result ≡ kept_cells.I8 natives }
     {
-        Cells::I8(natives)
+        ArrayData::I8(natives)
     }
 
     #[inline]
-    fn of_cells(cells: &Cells) -> Option<&Natives<i8>> {
+    fn of_cells(cells: &ArrayData) -> Option<&PrimitiveArray<i8>> {
         match cells {
-            Cells::I8(natives) => Some(natives),
+            ArrayData::I8(natives) => Some(natives),
             _ => None,
         }
     }
@@ -494,8 +494,8 @@ impl Native for i8 {
 impl Native for i16 {
     ghost use Rattle.vortex_base.specs.declared.pvalue.PValue.TheVariants as number;
     ghost use Rattle.std.specs.Prelude.{◌≡◌, map, option_map};
-    ghost use Rattle.vortex_base.specs.Data.Cells.{cell_values};
-    ghost use Rattle.vortex_base.specs.declared.cells.Cells.TheVariants as kept_cells;
+    ghost use Rattle.vortex_base.specs.Data.ArrayData.{cell_values};
+    ghost use Rattle.vortex_base.specs.declared.array_data.ArrayData.TheVariants as kept_cells;
     ghost use Rattle.vortex_base.specs.declared.scalar_value.ScalarValue.TheVariants as value;
 
     ghost scalar = { λ n. value.Primitive (number.I16 n) };
@@ -534,26 +534,26 @@ impl Native for i16 {
     }
 
     #[inline]
-    fn of_cell(cell: ShortCell) -> Option<Option<i16>> {
+    fn of_cell(cell: PrimitiveScalar) -> Option<Option<i16>> {
         match cell {
-            ShortCell::I16(n) => Some(Some(n)),
-            ShortCell::Null => Some(None),
+            PrimitiveScalar::I16(n) => Some(Some(n)),
+            PrimitiveScalar::Null => Some(None),
             _ => None,
         }
     }
 
-    fn into_cells(natives: Natives<i16>) -> Cells
+    fn into_cells(natives: PrimitiveArray<i16>) -> ArrayData
         ensures values { cell_values result
             ≡ map (option_map (λ n. value.Primitive (number.I16 n))) natives }
         ensures form { result ≡ kept_cells.I16 natives }
     {
-        Cells::I16(natives)
+        ArrayData::I16(natives)
     }
 
     #[inline]
-    fn of_cells(cells: &Cells) -> Option<&Natives<i16>> {
+    fn of_cells(cells: &ArrayData) -> Option<&PrimitiveArray<i16>> {
         match cells {
-            Cells::I16(natives) => Some(natives),
+            ArrayData::I16(natives) => Some(natives),
             _ => None,
         }
     }
@@ -562,8 +562,8 @@ impl Native for i16 {
 impl Native for i32 {
     ghost use Rattle.vortex_base.specs.declared.pvalue.PValue.TheVariants as number;
     ghost use Rattle.std.specs.Prelude.{◌≡◌, map, option_map};
-    ghost use Rattle.vortex_base.specs.Data.Cells.{cell_values};
-    ghost use Rattle.vortex_base.specs.declared.cells.Cells.TheVariants as kept_cells;
+    ghost use Rattle.vortex_base.specs.Data.ArrayData.{cell_values};
+    ghost use Rattle.vortex_base.specs.declared.array_data.ArrayData.TheVariants as kept_cells;
     ghost use Rattle.vortex_base.specs.declared.scalar_value.ScalarValue.TheVariants as value;
 
     ghost scalar = { λ n. value.Primitive (number.I32 n) };
@@ -602,26 +602,26 @@ impl Native for i32 {
     }
 
     #[inline]
-    fn of_cell(cell: ShortCell) -> Option<Option<i32>> {
+    fn of_cell(cell: PrimitiveScalar) -> Option<Option<i32>> {
         match cell {
-            ShortCell::I32(n) => Some(Some(n)),
-            ShortCell::Null => Some(None),
+            PrimitiveScalar::I32(n) => Some(Some(n)),
+            PrimitiveScalar::Null => Some(None),
             _ => None,
         }
     }
 
-    fn into_cells(natives: Natives<i32>) -> Cells
+    fn into_cells(natives: PrimitiveArray<i32>) -> ArrayData
         ensures values { cell_values result
             ≡ map (option_map (λ n. value.Primitive (number.I32 n))) natives }
         ensures form { result ≡ kept_cells.I32 natives }
     {
-        Cells::I32(natives)
+        ArrayData::I32(natives)
     }
 
     #[inline]
-    fn of_cells(cells: &Cells) -> Option<&Natives<i32>> {
+    fn of_cells(cells: &ArrayData) -> Option<&PrimitiveArray<i32>> {
         match cells {
-            Cells::I32(natives) => Some(natives),
+            ArrayData::I32(natives) => Some(natives),
             _ => None,
         }
     }
@@ -630,8 +630,8 @@ impl Native for i32 {
 impl Native for i64 {
     ghost use Rattle.vortex_base.specs.declared.pvalue.PValue.TheVariants as number;
     ghost use Rattle.std.specs.Prelude.{◌≡◌, map, option_map};
-    ghost use Rattle.vortex_base.specs.Data.Cells.{cell_values};
-    ghost use Rattle.vortex_base.specs.declared.cells.Cells.TheVariants as kept_cells;
+    ghost use Rattle.vortex_base.specs.Data.ArrayData.{cell_values};
+    ghost use Rattle.vortex_base.specs.declared.array_data.ArrayData.TheVariants as kept_cells;
     ghost use Rattle.vortex_base.specs.declared.scalar_value.ScalarValue.TheVariants as value;
 
     ghost scalar = { λ n. value.Primitive (number.I64 n) };
@@ -670,26 +670,26 @@ impl Native for i64 {
     }
 
     #[inline]
-    fn of_cell(cell: ShortCell) -> Option<Option<i64>> {
+    fn of_cell(cell: PrimitiveScalar) -> Option<Option<i64>> {
         match cell {
-            ShortCell::I64(n) => Some(Some(n)),
-            ShortCell::Null => Some(None),
+            PrimitiveScalar::I64(n) => Some(Some(n)),
+            PrimitiveScalar::Null => Some(None),
             _ => None,
         }
     }
 
-    fn into_cells(natives: Natives<i64>) -> Cells
+    fn into_cells(natives: PrimitiveArray<i64>) -> ArrayData
         ensures values { cell_values result
             ≡ map (option_map (λ n. value.Primitive (number.I64 n))) natives }
         ensures form { result ≡ kept_cells.I64 natives }
     {
-        Cells::I64(natives)
+        ArrayData::I64(natives)
     }
 
     #[inline]
-    fn of_cells(cells: &Cells) -> Option<&Natives<i64>> {
+    fn of_cells(cells: &ArrayData) -> Option<&PrimitiveArray<i64>> {
         match cells {
-            Cells::I64(natives) => Some(natives),
+            ArrayData::I64(natives) => Some(natives),
             _ => None,
         }
     }

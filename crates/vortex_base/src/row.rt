@@ -1,6 +1,6 @@
 //! The rows on which expressions have a meaning.
 ghost use Rattle.std.specs.Prelude.{◌≡◌, length, slice_get, option_map, []};
-ghost use Rattle.vortex_base.specs.Data.Cells.{value_of};
+ghost use Rattle.vortex_base.specs.Data.ArrayData.{value_of};
 ghost use Rattle.vortex_base.specs.Data.Columns.{row_of, cell_value, IsRow};
 
 use crate::column::Column;

@@ -10,7 +10,7 @@ ghost use Rattle.std.proofs.Common.{rules};
 ghost use lib.Pointwise.{pointwise};
 
 use crate::error::BaseError;
-use crate::texts::TextRef;
+use crate::utf8_array::TextRef;
 use std::alloc::AllocError;
 use std::cmp::Ordering;
 use std::marker::Model;

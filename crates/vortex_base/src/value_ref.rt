@@ -1,17 +1,17 @@
 //! Values that are lent, in whatever form their owner keeps them.
 ghost use Rattle.std.specs.Prelude.{◌≡◌, IfOk, IsTrue, OnErr, Some, option_copied, option_map};
-ghost use Rattle.vortex_base.specs.Data.Cells.{value_of};
+ghost use Rattle.vortex_base.specs.Data.ArrayData.{value_of};
 ghost use Rattle.vortex_base.specs.Data.Scalars.{is_optional_value};
 ghost use Rattle.vortex_base.specs.Data.Values.{is_value, kind_index, value_cmp};
 ghost use Rattle.vortex_base.specs.Data.Scalars.{is_long};
 
-use crate::blobs::BytesRef;
 use crate::bytes::Bytes;
 use crate::dtype::DType;
 use crate::pvalue::PValue;
 use crate::scalar_value::ScalarValue;
 use crate::text::Text;
-use crate::texts::TextRef;
+use crate::utf8_array::TextRef;
+use crate::var_bin_array::BytesRef;
 use std::alloc::AllocError;
 use std::cmp::Ordering;
 

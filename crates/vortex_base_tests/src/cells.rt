@@ -3,10 +3,10 @@
 use crate::testing::*;
 use std::alloc::Global;
 use std::process::Abort;
-use vortex_base::cells::ShortCell;
+use vortex_base::array_data::PrimitiveScalar;
 use vortex_base::{
-    Cells, Chunk, Column, DType, Element, Native, Natives, Nullability, PType, ScalarValue,
-    ValueRef,
+    ArrayData, Chunk, Column, DType, Element, Native, Nullability, PType, PrimitiveArray,
+    ScalarValue, ValueRef,
 };
 
 fn copy(rt: &impl Abort, value: &ScalarValue) -> ScalarValue {
@@ -18,13 +18,13 @@ fn expect_value(rt: &impl Abort, lent: Option<ValueRef<'_>>, value: &ScalarValue
     assert!(rt; lent.to_value().expect(rt, "a copy") == *value);
 }
 
-fn of_cells(rt: &impl Abort, dtype: DType, cells: Cells) -> Column {
+fn of_cells(rt: &impl Abort, dtype: DType, cells: ArrayData) -> Column {
     Column::of_cells(dtype, cells, 3).expect(rt, "a column")
 }
 
 // The column of a value and null, pushed into cells of the type.
 fn typed(rt: &impl Abort, alloc: Global, dtype: DType, value: ScalarValue) -> Column {
-    let mut cells = Cells::with_capacity(alloc, dtype, 2).expect(rt, "room");
+    let mut cells = ArrayData::with_capacity(alloc, dtype, 2).expect(rt, "room");
     cells.push(Some(value)).expect(rt, "a value");
     cells.push(None).expect(rt, "null");
     of_cells(rt, dtype, cells)
@@ -40,7 +40,7 @@ fn of_any(rt: &impl Abort, alloc: Global, dtype: DType, value: ScalarValue) -> C
 
 // The value is pushed, and lent to be pushed once more behind a null.
 fn expect_kept(rt: &impl Abort, alloc: Global, dtype: DType, value: &ScalarValue) {
-    let mut cells = Cells::new(alloc, dtype);
+    let mut cells = ArrayData::new(alloc, dtype);
     cells.push(Some(copy(rt, value))).expect(rt, "a value");
     cells.push(None).expect(rt, "null");
     cells
@@ -56,7 +56,7 @@ fn expect_kept(rt: &impl Abort, alloc: Global, dtype: DType, value: &ScalarValue
 
 // The value is set in the place of a null.
 fn expect_set(rt: &impl Abort, alloc: Global, dtype: DType, value: &ScalarValue) {
-    let mut cells = Cells::nulls(alloc, dtype, 2).expect(rt, "nulls");
+    let mut cells = ArrayData::nulls(alloc, dtype, 2).expect(rt, "nulls");
     assert_eq!(rt; cells.len(), 2);
     cells.set(1, Some(copy(rt, value))).expect(rt, "a value");
     let column = of_cells(rt, dtype, cells);
@@ -147,28 +147,33 @@ fn lends<T: Native + PartialEq>(column: &Column, value: T) -> bool {
 }
 
 // Cells of the type that hold the value and null, and are made of slices.
-fn of_slices<T: Native>(rt: &impl Abort, alloc: Global, value: T) -> Cells {
+fn of_slices<T: Native>(rt: &impl Abort, alloc: Global, value: T) -> ArrayData {
     let mut values = Vec::new(alloc);
     values.push(value).expect(rt, "a value");
     values.push(value).expect(rt, "a value");
     assert_eq!(rt; values.len(), 2);
-    let natives = Natives::from_slices(alloc, &values, &[true, false]).expect(rt, "natives");
+    let natives = PrimitiveArray::from_slices(alloc, &values, &[true, false]).expect(rt, "natives");
     T::into_cells(natives)
 }
 
 // Cells of the type that hold the cell and null.
-fn of_short_cells(rt: &impl Abort, alloc: Global, dtype: DType, cell: ShortCell) -> Cells {
-    let mut cells = Cells::nulls(alloc, dtype, 1).expect(rt, "a null");
+fn of_short_cells(
+    rt: &impl Abort,
+    alloc: Global,
+    dtype: DType,
+    cell: PrimitiveScalar,
+) -> ArrayData {
+    let mut cells = ArrayData::nulls(alloc, dtype, 1).expect(rt, "a null");
     assert_eq!(rt; cells.len(), 1);
     cells
         .set_cell(0, cell)
         .expect(rt, "a cell in the place of another");
-    cells.push_cell(ShortCell::Null).expect(rt, "null");
+    cells.push_cell(PrimitiveScalar::Null).expect(rt, "null");
     cells
 }
 
 // The value is one of its type, and the cell of it.
-fn expect_of_type<T: Native + PartialEq>(rt: &impl Abort, value: T, cell: ShortCell) {
+fn expect_of_type<T: Native + PartialEq>(rt: &impl Abort, value: T, cell: PrimitiveScalar) {
     assert!(rt; T::of_lent(value.lend()) == Some(value));
     assert!(rt; T::of_value(&value.to_value()) == Some(value));
     assert!(rt; T::of_cell(cell) == Some(Some(value)));
@@ -179,7 +184,7 @@ fn expect_native<T: Native + PartialEq>(
     alloc: Global,
     dtype: DType,
     value: T,
-    cell: ShortCell,
+    cell: PrimitiveScalar,
 ) {
     expect_of_type(rt, value, cell);
     expect_held(rt, alloc, dtype, &value.to_value());
@@ -195,7 +200,7 @@ fn expect_native<T: Native + PartialEq>(
 
 #[test]
 fn truths_and_numbers_are_held(rt: HostRuntime) {
-    use ShortCell::{Bool, I8, I16, I32, I64, U8, U16, U32, U64};
+    use PrimitiveScalar::{Bool, I8, I16, I32, I64, U8, U16, U32, U64};
     let alloc = rt.alloc();
     expect_native(&rt, alloc, BOOL_OR_NULL, true, Bool(true));
     expect_native(&rt, alloc, number(PType::U8), 255u8, U8(255));
@@ -210,9 +215,11 @@ fn truths_and_numbers_are_held(rt: HostRuntime) {
 
 // A truth behind a null of another form makes of both values of any kind.
 fn expect_widened(rt: &impl Abort, alloc: Global, dtype: DType) {
-    let mut cells = Cells::new(alloc, dtype);
+    let mut cells = ArrayData::new(alloc, dtype);
     cells.push(None).expect(rt, "null");
-    cells.push_cell(ShortCell::Bool(true)).expect(rt, "a truth");
+    cells
+        .push_cell(PrimitiveScalar::Bool(true))
+        .expect(rt, "a truth");
     cells.shrink_to_fit();
     assert!(rt; cells.len() == 2 && cells.fits(&BOOL_OR_NULL) && !cells.fits(&dtype));
 }
@@ -231,8 +238,8 @@ fn values_of_another_kind_stand_beside_each_form(rt: HostRuntime) {
     }
 }
 
-fn expect_lent(rt: &impl Abort, natives: Natives<i64>, values: &[i64], there: &[bool]) {
-    let (dtype, cells) = (number(PType::I64), Cells::I64(natives));
+fn expect_lent(rt: &impl Abort, natives: PrimitiveArray<i64>, values: &[i64], there: &[bool]) {
+    let (dtype, cells) = (number(PType::I64), ArrayData::I64(natives));
     assert!(rt; cells.fits(&dtype));
     let column = Column::new_unchecked(dtype, cells, 8);
     let natives = column.natives::<i64>().expect(rt, "natives");
@@ -244,21 +251,21 @@ fn expect_lent(rt: &impl Abort, natives: Natives<i64>, values: &[i64], there: &[
 fn slices_and_vectors_become_columns(rt: HostRuntime) {
     let alloc = rt.alloc();
     let values = [-5, 0, i64::MAX];
-    let natives = Natives::from_slice(alloc, &values).expect(&rt, "natives");
+    let natives = PrimitiveArray::from_slice(alloc, &values).expect(&rt, "natives");
     expect_lent(&rt, natives, &values, &[true, true, true]);
     let vector = Vec::from_slice(alloc, &values).expect(&rt, "a vector");
-    let natives = Natives::from_vec(alloc, vector).expect(&rt, "natives");
+    let natives = PrimitiveArray::from_vec(alloc, vector).expect(&rt, "natives");
     expect_lent(&rt, natives, &values, &[true, true, true]);
     let vector = Vec::from_slice(alloc, &values).expect(&rt, "a vector");
     let there = Vec::from_slice(alloc, &[true, false, true]).expect(&rt, "truths");
     assert!(rt; vector.len() == there.len());
-    let natives = Natives::from_vecs(vector, there);
+    let natives = PrimitiveArray::from_vecs(vector, there);
     expect_lent(&rt, natives, &values, &[true, false, true]);
 }
 
 // The chunk of so many rows of a type without values.
 fn nulls(rt: &impl Abort, alloc: Global, count: usize) -> Chunk {
-    let cells = Cells::nulls(alloc, DType::Null, count).expect(rt, "nulls");
+    let cells = ArrayData::nulls(alloc, DType::Null, count).expect(rt, "nulls");
     chunk_of(rt, alloc, DType::Null, of_cells(rt, DType::Null, cells))
 }
 
@@ -270,7 +277,7 @@ fn nulls_alone_are_held(rt: HostRuntime) {
     assert!(rt; chunk.rows() == 3);
     let state = DType::MinMaxState(Element::Bool, Nullability::NonNullable);
     for dtype in [DType::Null, state] {
-        let cells = Cells::with_capacity(alloc, dtype, 3).expect(&rt, "room");
+        let cells = ArrayData::with_capacity(alloc, dtype, 3).expect(&rt, "room");
         assert!(rt; cells.len() == 0);
     }
 }

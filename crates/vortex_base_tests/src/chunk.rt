@@ -3,7 +3,7 @@ use crate::testing::{self, BOOL, UTF8_OR_NULL};
 use std::alloc::Global;
 use std::test::Fail;
 use vortex_base::{
-    BaseError, Cells, Chunk, Column, DType, Native, Nullability, PType, ScalarValue, Scope,
+    ArrayData, BaseError, Chunk, Column, DType, Native, Nullability, PType, ScalarValue, Scope,
     ValueRef,
 };
 
@@ -127,9 +127,9 @@ fn append_a_hundred_thousand_columns(rt: HostRuntime) {
 
 // The column of two texts, in cells of texts or as values of any kind.
 fn two_texts(alloc: Global, is_typed: bool) -> Result<Column, BaseError> {
-    let mut cells = Cells::Any(Vec::new(alloc));
+    let mut cells = ArrayData::Any(Vec::new(alloc));
     if is_typed {
-        cells = Cells::new(alloc, UTF8_OR_NULL);
+        cells = ArrayData::new(alloc, UTF8_OR_NULL);
     }
     cells.push(Some(testing::text_value(alloc, "a")?))?;
     cells.push(Some(testing::text_value(alloc, "b")?))?;

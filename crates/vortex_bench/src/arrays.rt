@@ -5,15 +5,15 @@ use crate::pruning::{self, REPEATS, ROWS, Size};
 use anyhow::Result;
 use std::alloc::{AllocError, Global};
 use vortex_base::aggregate::AggregateFnRef;
-use vortex_base::cells::Cells;
+use vortex_base::array_data::ArrayData;
 use vortex_base::column::Column;
 use vortex_base::error::BaseError;
 use vortex_base::native::Native;
-use vortex_base::natives::Natives;
 use vortex_base::nulls::Nulls;
+use vortex_base::primitive_array::PrimitiveArray;
 use vortex_base::scope::Scope;
 use vortex_expr::bound_expression::BoundExpression;
-use vortex_zone_map::zone_map::{Head, ZoneMap};
+use vortex_zone_map::zone_map::{StatColumn, ZoneMap};
 
 // Each zone by its number of rows, and each of its columns by the least and the
 // greatest value and how many nulls there are.
@@ -48,32 +48,42 @@ fn arrays_of(alloc: Global, size: Size) -> Result<Arrays> {
 }
 
 // Whether a zone has no nulls, zone by zone.
-fn without_nulls(alloc: Global, nulls: &[u64]) -> Result<Cells, AllocError> {
-    let mut without = Natives::with_capacity(alloc, nulls.len())?;
+fn without_nulls(alloc: Global, nulls: &[u64]) -> Result<ArrayData, AllocError> {
+    let mut without = PrimitiveArray::with_capacity(alloc, nulls.len())?;
     for count in nulls {
         without.push(Some(*count == 0))?;
     }
-    Ok(Cells::Bool(without))
+    Ok(ArrayData::Bool(without))
 }
 
 // The cells under a head of the table.
-fn cells_under(alloc: Global, head: &Head, arrays: &Arrays) -> Result<Cells, AllocError> {
+fn cells_under(alloc: Global, head: &StatColumn, arrays: &Arrays) -> Result<ArrayData, AllocError> {
     match head.aggregate() {
-        AggregateFnRef::Min => Ok(i64::into_cells(Natives::from_slice(alloc, &arrays.least)?)),
-        AggregateFnRef::Max => Ok(i64::into_cells(Natives::from_slice(alloc, &arrays.greatest)?)),
+        AggregateFnRef::Min => Ok(i64::into_cells(PrimitiveArray::from_slice(
+            alloc,
+            &arrays.least,
+        )?)),
+        AggregateFnRef::Max => Ok(i64::into_cells(PrimitiveArray::from_slice(
+            alloc,
+            &arrays.greatest,
+        )?)),
         AggregateFnRef::NullCount => {
-            Ok(u64::into_cells(Natives::from_slice(alloc, &arrays.nulls)?))
+            Ok(u64::into_cells(PrimitiveArray::from_slice(alloc, &arrays.nulls)?))
         }
         AggregateFnRef::AllNonNull => without_nulls(alloc, &arrays.nulls),
-        _ => Ok(Cells::Nulls(Nulls::new(alloc, arrays.rows.len()))),
+        _ => Ok(ArrayData::Nulls(Nulls::new(alloc, arrays.rows.len()))),
     }
 }
 
-fn column_under(alloc: Global, head: &Head, arrays: &Arrays) -> Result<Column, BaseError> {
+fn column_under(alloc: Global, head: &StatColumn, arrays: &Arrays) -> Result<Column, BaseError> {
     Column::of_cells(head.dtype(), cells_under(alloc, head, arrays)?, 0)
 }
 
-fn columns_under(alloc: Global, heads: &[Head], arrays: &Arrays) -> Result<Vec<Column>, BaseError> {
+fn columns_under(
+    alloc: Global,
+    heads: &[StatColumn],
+    arrays: &Arrays,
+) -> Result<Vec<Column>, BaseError> {
     let mut columns = Vec::with_capacity(alloc, heads.len())?;
     for head in heads {
         add(&mut columns, column_under(alloc, head, arrays))?;

@@ -1,6 +1,6 @@
 // Statistics of large columns: made from their values, and checked against them.
 use std::alloc::{AllocError, Global};
-use vortex_base::cells::Cells;
+use vortex_base::array_data::ArrayData;
 use vortex_base::column::Column;
 use vortex_base::dtype::DType;
 use vortex_base::error::BaseError;
@@ -32,7 +32,7 @@ fn is_null(number: i64) -> bool {
     number / 4_294_967_296 % 8 == 0
 }
 
-fn push_numbers(cells: &mut Cells) -> Result<(), BaseError> {
+fn push_numbers(cells: &mut ArrayData) -> Result<(), BaseError> {
     let mut number = 1;
     for _ in 0..NUMBERS {
         number = next(number);
@@ -50,7 +50,7 @@ fn text(alloc: Global, number: i64) -> Result<Option<ScalarValue>, AllocError> {
     Ok(Some(ScalarValue::Utf8(text)))
 }
 
-fn push_texts(alloc: Global, cells: &mut Cells) -> Result<(), BaseError> {
+fn push_texts(alloc: Global, cells: &mut ArrayData) -> Result<(), BaseError> {
     let mut number = 1;
     for _ in 0..TEXTS {
         number = next(number);
@@ -59,7 +59,7 @@ fn push_texts(alloc: Global, cells: &mut Cells) -> Result<(), BaseError> {
     Ok(())
 }
 
-fn push_values(alloc: Global, dtype: DType, cells: &mut Cells) -> Result<(), BaseError> {
+fn push_values(alloc: Global, dtype: DType, cells: &mut ArrayData) -> Result<(), BaseError> {
     match dtype {
         DType::Utf8(_) => push_texts(alloc, cells),
         _ => push_numbers(cells),
@@ -67,7 +67,7 @@ fn push_values(alloc: Global, dtype: DType, cells: &mut Cells) -> Result<(), Bas
 }
 
 fn column_of(alloc: Global, dtype: DType, count: usize) -> Result<Column, BaseError> {
-    let mut cells = Cells::with_capacity(alloc, dtype, count)?;
+    let mut cells = ArrayData::with_capacity(alloc, dtype, count)?;
     push_values(alloc, dtype, &mut cells)?;
     Column::of_cells(dtype, cells, 0)
 }

@@ -1,6 +1,6 @@
 -- Nulls of a column that keeps which of its values are there.
 use Rattle.std.proofs.Common.{◌≡◌, ◌+◌, ℕ, Bool, true, false, cond, fold, not, List, [], ◌∷◌, count_by, is_none, length, map, option_map, refl, arith}
-use Rattle.vortex_base.specs.Data.Natives.{optionals}
+use Rattle.vortex_base.specs.Data.PrimitiveArray.{optionals}
 use Rattle.vortex_base.specs.declared.scalar_value.ScalarValue.{ScalarValue}
 
 -- the same behind some that were counted

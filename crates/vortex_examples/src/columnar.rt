@@ -1,9 +1,9 @@
 //! A reader whose file has whole columns: values of one type beside which of them are there.
 ghost use Rattle.std.specs.Prelude.{◌≡◌, IfOk, IfSome, count_by, is_none, length, map, not, option_map};
-ghost use Rattle.vortex_base.specs.Data.Natives.{optionals};
+ghost use Rattle.vortex_base.specs.Data.PrimitiveArray.{optionals};
 
 use std::alloc::Global;
-use vortex_base::{BaseError, Column, DType, Native, Natives};
+use vortex_base::{BaseError, Column, DType, Native, PrimitiveArray};
 
 /// The column of a file's values, null where one isn't there. `Mismatch` where they aren't of the
 /// type, or where one isn't there and the type has no null.
@@ -17,7 +17,7 @@ pub fn column_of_numbers<T: Native>(
     ensures { IfOk result (λ column.
         column.values ≡ map (option_map T.scalar) (optionals values.now there.now)) }
 {
-    let natives = Natives::from_slices(alloc, values, there)?;
+    let natives = PrimitiveArray::from_slices(alloc, values, there)?;
     Column::of_cells(dtype, T::into_cells(natives), 0)
 }
 

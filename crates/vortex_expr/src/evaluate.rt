@@ -1,6 +1,6 @@
 //! The value of an expression on a row.
 ghost use Rattle.std.specs.Prelude.{◌≡◌, IsTrue, alloc_error, option_map};
-ghost use Rattle.vortex_base.specs.Data.Cells.{value_of};
+ghost use Rattle.vortex_base.specs.Data.ArrayData.{value_of};
 ghost use Rattle.vortex_base.specs.Data.Scalars.{is_long};
 ghost use Rattle.vortex_expr.specs.Meanings.Meaning as spec;
 ghost use Rattle.vortex_expr.specs.Meanings.Meaning.{can_evaluate, meaning};

@@ -1,27 +1,27 @@
 //! The calls over columns, statistics and tables, under the names of the header.
 ghost use Rattle.std.specs.Prelude.{◌≡◌, ◌≢◌, IfOk, length};
-ghost use Rattle.vortex_calls.specs.Arrow as arrow;
-ghost use Rattle.vortex_calls.specs.Checks as checks;
-ghost use Rattle.vortex_calls.specs.Measures.{measured};
-ghost use Rattle.vortex_calls.specs.Merges.{merged, together};
-ghost use Rattle.vortex_calls.specs.Prunes as prunes;
-ghost use Rattle.vortex_calls.specs.Slots.{IsTold};
-ghost use Rattle.vortex_calls.specs.Values.{given_column};
-ghost use Rattle.vortex_calls.specs.SqlCalls.SqlPrunes as sql_prunes;
+ghost use Rattle.vortex_capi.specs.Arrow as arrow;
+ghost use Rattle.vortex_capi.specs.Checks as checks;
+ghost use Rattle.vortex_capi.specs.Measures.{measured};
+ghost use Rattle.vortex_capi.specs.Merges.{merged, together};
+ghost use Rattle.vortex_capi.specs.Prunes as prunes;
+ghost use Rattle.vortex_capi.specs.Slots.{IsTold};
+ghost use Rattle.vortex_capi.specs.Values.{given_column};
+ghost use Rattle.vortex_capi.specs.SqlCalls.SqlPrunes as sql_prunes;
 
 use std::alloc::Global;
-use vortex_calls::arrow::ArrowValues;
-use vortex_calls::check::{check, check_arrow};
-use vortex_calls::fault::Fault;
-use vortex_calls::field::Field;
-use vortex_calls::measure::{measure, measure_arrow};
-use vortex_calls::merge::merge;
-use vortex_calls::merge_zones::merge_zones;
-use vortex_calls::prune::prune;
-use vortex_calls::span::Span;
-use vortex_calls::sql::prune_sql::prune_sql;
-use vortex_calls::statistic::Statistic;
-use vortex_calls::values::Values;
+use vortex_capi::arrow::ArrowValues;
+use vortex_capi::check::{check, check_arrow};
+use vortex_capi::fault::Fault;
+use vortex_capi::field::Field;
+use vortex_capi::measure::{measure, measure_arrow};
+use vortex_capi::merge::merge;
+use vortex_capi::merge_zones::merge_zones;
+use vortex_capi::prune::prune;
+use vortex_capi::span::Span;
+use vortex_capi::sql::prune_sql::prune_sql;
+use vortex_capi::statistic::Statistic;
+use vortex_capi::values::Values;
 
 /// Whether a zone has as many rows as a column and each of its statistics is true of the column's
 /// values, `vortex_check` of the header.

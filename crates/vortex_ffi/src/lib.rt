@@ -2,7 +2,7 @@
 //! arrays out.
 //!
 //! `callers/c/vortex.h` declares what crosses and says what each call needs. No call keeps
-//! anything, and every array is the caller's. Each is a call of `vortex_calls` or of `vortex_text`
+//! anything, and every array is the caller's. Each is a call of `vortex_capi` or of `vortex_text`
 //! under the name of the header.
 #![tactic(auto)]
 

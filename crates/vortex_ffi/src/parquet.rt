@@ -1,19 +1,19 @@
 //! The calls over footers of Parquet files, under the names of the header.
-ghost use Rattle.vortex_calls.specs.ParquetCalls.DataPages as told;
-ghost use Rattle.vortex_calls.specs.ParquetCalls.FooterPrunes as footers;
-ghost use Rattle.vortex_calls.specs.ParquetCalls.IndexBegins as indexes;
-ghost use Rattle.vortex_calls.specs.ParquetCalls.PagePrunes as pages;
+ghost use Rattle.vortex_capi.specs.ParquetCalls.DataPages as told;
+ghost use Rattle.vortex_capi.specs.ParquetCalls.FooterPrunes as footers;
+ghost use Rattle.vortex_capi.specs.ParquetCalls.IndexBegins as indexes;
+ghost use Rattle.vortex_capi.specs.ParquetCalls.PagePrunes as pages;
 
 use std::alloc::Global;
-use vortex_calls::fault::Fault;
-use vortex_calls::parquet::data_pages::data_pages;
-use vortex_calls::parquet::indexes::indexes_begin;
-use vortex_calls::parquet::prune_footer::prune_footer;
-use vortex_calls::parquet::prune_pages::prune_pages;
-use vortex_calls::parquet::row_group::RowGroup;
-use vortex_calls::parquet::row_range::RowRange;
-use vortex_calls::parquet::tail::footer_length;
-use vortex_calls::span::Span;
+use vortex_capi::fault::Fault;
+use vortex_capi::parquet::data_pages::data_pages;
+use vortex_capi::parquet::indexes::indexes_begin;
+use vortex_capi::parquet::prune_footer::prune_footer;
+use vortex_capi::parquet::prune_pages::prune_pages;
+use vortex_capi::parquet::row_group::RowGroup;
+use vortex_capi::parquet::row_range::RowRange;
+use vortex_capi::parquet::tail::footer_length;
+use vortex_capi::span::Span;
 use vortex_parquet::data_pages::DataPage;
 
 /// How many bytes the footer has that stands before the last eight bytes of a file,

@@ -5,7 +5,7 @@ ghost use Rattle.vortex_text.specs.Program.{IsFullScan};
 
 use std::alloc::Global;
 use std::io;
-use vortex_calls::status::Status;
+use vortex_capi::status::Status;
 use vortex_text::program::run;
 
 // Writes an answer to the front of an array that is long enough for it, and its length in any case.

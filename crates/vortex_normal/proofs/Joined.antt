@@ -12,7 +12,7 @@ use Rattle.vortex_rewrite.proofs.Completeness.Choices.{all_map}
 use Rattle.vortex_rewrite.proofs.Soundness.TruthLogic.{clash, refuted}
 use Rattle.vortex_rewrite.specs.Rewriting.Falsifiers.{bool_literal}
 use Rattle.vortex_rewrite.specs.Rewriting.Predicates.{is_predicate}
-use Rattle.vortex_rewrite.specs.Rewriting.ReadOnce.{are_apart, columns_of, has_index, is_apart}
+use Rattle.vortex_rewrite.specs.Rewriting.ReadOnce.{are_apart, columns_of, has_index, has_disjoint_ands}
 use Rattle.vortex_normal.specs.Balanced.{balanced}
 use Rattle.vortex_normal.specs.Groups.{Item, inside, other, add, add_sets, as_one, collected, grouped, is_of, item_test, items_test, leaf_item, lone_item, widened}
 use Rattle.vortex_normal.specs.Intervals.{Interval}
@@ -152,7 +152,7 @@ AreApartFrom false x xs = Unit {0}
 
 abbrev AreDecided : (is_and : Bool) → List Item → Type 0
 AreDecided w [] = Unit {0}
-AreDecided w (x ∷ xs) = (is_apart (item_test w x) ≡ true) × (AreApartFrom w x xs × AreDecided w xs)
+AreDecided w (x ∷ xs) = (has_disjoint_ands (item_test w x) ≡ true) × (AreApartFrom w x xs × AreDecided w xs)
 
 module _ (ds : List Place) where
   avoid_item : (x : Item) → ItemPasses (avoids ds) x → (c : Place) → within ds c ≡ true → avoids (columns_of (item_test true x)) c ≡ true
@@ -178,21 +178,21 @@ tests_apart : (xs : List Item) → AreDecided true xs → AreApart (map (item_te
 tests_apart [] h = tt
 tests_apart (x ∷ xs) h = (h.0, (from_tests (columns_of (item_test true x)) xs h.1.0, tests_apart xs h.1.1))
 
-either_tests : (xs : List Item) → AreDecided false xs → AllByRecursion (λ e. is_apart e ≡ true) (map (item_test false) xs)
+either_tests : (xs : List Item) → AreDecided false xs → AllByRecursion (λ e. has_disjoint_ands e ≡ true) (map (item_test false) xs)
 either_tests [] h = tt
 either_tests (x ∷ xs) h = (h.0, either_tests xs h.1.1)
 
-items_apart : (w : Bool) (xs : List Item) → AreDecided w xs → is_apart (items_test w xs) ≡ true
+items_apart : (w : Bool) (xs : List Item) → AreDecided w xs → has_disjoint_ands (items_test w xs) ≡ true
 items_apart true xs h = all_apart (map (item_test true) xs) (tests_apart xs h)
 items_apart false xs h =
     let tests = map (item_test false) xs in
-    either_apart (balanced false tests) (bool_literal false) (balanced_has (λ e. is_apart e ≡ true) false either_apart tests refl (either_tests xs h)) refl
+    either_apart (balanced false tests) (bool_literal false) (balanced_has (λ e. has_disjoint_ands e ≡ true) false either_apart tests refl (either_tests xs h)) refl
 
-lone_apart : (v w : Bool) (x : Item) → is_apart (item_test w x) ≡ true → is_apart (item_test v (lone_item w x)) ≡ true
+lone_apart : (v w : Bool) (x : Item) → has_disjoint_ands (item_test w x) ≡ true → has_disjoint_ands (item_test v (lone_item w x)) ≡ true
 lone_apart v w (inside c m iss) h = h
 lone_apart v w (other e) h = h
 
-one_apart : (v w : Bool) (xs : List Item) → AreDecided w xs → is_apart (item_test v (as_one w xs)) ≡ true
+one_apart : (v w : Bool) (xs : List Item) → AreDecided w xs → has_disjoint_ands (item_test v (as_one w xs)) ≡ true
 one_apart v w [] h = items_apart w [] h
 one_apart v w (x ∷ []) h = lone_apart v w x h.0
 one_apart v w (x ∷ y ∷ xs) h = items_apart w (x ∷ y ∷ xs) h
@@ -205,7 +205,7 @@ IsDecidedTree e = (decided e ≡ None) × ((w : Bool) → AreDecided w (collecte
 tree_undecided : (e : Tree Place) → IsDecidedTree e → decided e ≡ None
 tree_undecided e h = h.0
 
-alone : (v : Bool) (x : Item) → is_apart (item_test v x) ≡ true → AreDecided v (add v x [])
+alone : (v : Bool) (x : Item) → has_disjoint_ands (item_test v x) ≡ true → AreDecided v (add v x [])
 alone true (inside c m iss) h = (h, (tt, tt))
 alone true (other e) h = (h, (tt, tt))
 alone false (inside c m iss) h = (h, (tt, tt))
@@ -288,15 +288,15 @@ joining_settled w (like o x q) predicate plain j = one_settled w (like o x q) pr
 joining_settled w (stat f x) predicate plain o = one_settled w (stat f x) predicate o
 joining_settled w row_count predicate plain o = one_settled w row_count predicate o
 
-grouped_truth : (b : Bool) → is_apart (grouped (bool_literal b)) ≡ true
+grouped_truth : (b : Bool) → has_disjoint_ands (grouped (bool_literal b)) ≡ true
 unfolding all_of
 grouped_truth true = refl
 grouped_truth false = refl
 
-truth_apart : (e : Tree Place) → (b : Bool) × (e ≡ bool_literal b) → is_apart (grouped e) ≡ true
-truth_apart e b = subst (λ x. is_apart (grouped x) ≡ true) (sym b.1) (grouped_truth b.0)
+truth_apart : (e : Tree Place) → (b : Bool) × (e ≡ bool_literal b) → has_disjoint_ands (grouped e) ≡ true
+truth_apart e b = subst (λ x. has_disjoint_ands (grouped x) ≡ true) (sym b.1) (grouped_truth b.0)
 
-settled_apart : (e : Tree Place) → IsSettled e → is_apart (grouped e) ≡ true
+settled_apart : (e : Tree Place) → IsSettled e → has_disjoint_ands (grouped e) ≡ true
 settled_apart e (inl b) = truth_apart e b
 settled_apart e (inr k) = items_apart true (collected true e []) (k.1 true)
 

@@ -25,7 +25,7 @@ use Rattle.vortex_rewrite.proofs.Logic.{all_append}
 use Rattle.vortex_rewrite.proofs.Soundness.TruthLogic.{clash}
 use Rattle.vortex_rewrite.specs.Rewriting.Falsifiers.{bool_literal}
 use Rattle.vortex_rewrite.specs.Rewriting.Predicates.{is_predicate}
-use Rattle.vortex_rewrite.specs.Rewriting.ReadOnce.{are_sides_apart, columns_of, has_closed_end, is_apart, is_number_type, is_simple}
+use Rattle.vortex_rewrite.specs.Rewriting.ReadOnce.{are_sides_apart, columns_of, has_closed_end, has_disjoint_ands, is_number_type, is_simple}
 use Rattle.vortex_normal.specs.Balanced.{balanced}
 use Rattle.vortex_normal.specs.Groups.{inside, collected, items_test, normal}
 use Rattle.vortex_normal.specs.Intervals.{Cut, Lowest, Before, After, Highest, Interval, all_but, at_most, between_cuts, combined, contains, cuts_all, in_set, interval_test, literal_as, hole_by, only_hole, range_of, set_test}
@@ -105,15 +105,15 @@ are_open (After l) (Before u) = true
 are_open l u = false
 
 -- the sides of an OR may share the column
-pub or_apart : (l r : Tree Place) → is_apart l ≡ true → is_apart r ≡ true → is_apart (binary Or l r) ≡ true
+pub or_apart : (l r : Tree Place) → has_disjoint_ands l ≡ true → has_disjoint_ands r ≡ true → has_disjoint_ands (binary Or l r) ≡ true
 or_apart l r h k =
     let a = and_parts (is_simple l) (are_sides_apart l) h in
     let b = and_parts (is_simple r) (are_sides_apart r) k in
     both_hold _ _ (both_hold _ _ a.0 b.0) (both_hold _ _ a.1 b.1)
 
-pub either_apart : (l r : Tree Place) → is_apart l ≡ true → is_apart r ≡ true → is_apart (connected false l r) ≡ true
+pub either_apart : (l r : Tree Place) → has_disjoint_ands l ≡ true → has_disjoint_ands r ≡ true → has_disjoint_ands (connected false l r) ≡ true
 unfolding any_of
-either_apart l r h k = any_by_kept (λ e. is_apart e ≡ true) l r h k (decided l) (decided r) (or_apart l r h k)
+either_apart l r h k = any_by_kept (λ e. has_disjoint_ands e ≡ true) l r h k (decided l) (decided r) (or_apart l r h k)
 
 -- ---- predicates that are no literal truth, of which an OR loses none
 
@@ -170,14 +170,14 @@ module _ (c : Place) where
   are_decided [] = true
   are_decided (i ∷ is) = is_decided i.low i.high && are_decided is
 
-  range_apart : (o : BetweenOptions) (l u : ScalarValue) → (is_number_type c.dtype || has_closed_end o) ≡ true → is_apart (range_of c o l u) ≡ true
+  range_apart : (o : BetweenOptions) (l u : ScalarValue) → (is_number_type c.dtype || has_closed_end o) ≡ true → has_disjoint_ands (range_of c o l u) ≡ true
   range_apart o l u h = both_hold _ _ (both_hold _ _ h refl) refl
 
-  closed_apart : (l u : ScalarValue) (b : Bool) → is_apart (if b then binary Eq (column c) (literal_as c l) else range_of c (record { lower_strict = NonStrict; upper_strict = NonStrict }) l u) ≡ true
+  closed_apart : (l u : ScalarValue) (b : Bool) → has_disjoint_ands (if b then binary Eq (column c) (literal_as c l) else range_of c (record { lower_strict = NonStrict; upper_strict = NonStrict }) l u) ≡ true
   closed_apart l u true = refl
   closed_apart l u false = range_apart (record { lower_strict = NonStrict; upper_strict = NonStrict }) l u (or_yes (is_number_type c.dtype))
 
-  cuts_apart : (l u : Cut) → is_decided l u ≡ true → is_apart (between_cuts c l u) ≡ true
+  cuts_apart : (l u : Cut) → is_decided l u ≡ true → has_disjoint_ands (between_cuts c l u) ≡ true
   cuts_apart Lowest Highest h = cc
   cuts_apart Lowest (Before u) h = refl
   cuts_apart Lowest (After u) h = refl
@@ -195,24 +195,24 @@ module _ (c : Place) where
   cuts_apart Highest (After u) h = refl
   cuts_apart Highest Highest h = refl
 
-  hole_apart : (v : Option ScalarValue) (e : Tree Place) → is_apart e ≡ true → is_apart (all_but c v e) ≡ true
+  hole_apart : (v : Option ScalarValue) (e : Tree Place) → has_disjoint_ands e ≡ true → has_disjoint_ands (all_but c v e) ≡ true
   hole_apart (Some v) e h = refl
   hole_apart None e h = h
 
-  intervals_apart : (is : List Interval) → are_decided is ≡ true → AllByRecursion (λ e. is_apart e ≡ true) (map (interval_test c) is)
+  intervals_apart : (is : List Interval) → are_decided is ≡ true → AllByRecursion (λ e. has_disjoint_ands e ≡ true) (map (interval_test c) is)
   intervals_apart [] h = tt
   intervals_apart (i ∷ is) h =
       let k = and_parts (is_decided i.low i.high) (are_decided is) h in
       (cuts_apart i.low i.high k.0, intervals_apart is k.1)
 
-  set_apart : (is : List Interval) → are_decided is ≡ true → is_apart (set_test c is) ≡ true
+  set_apart : (is : List Interval) → are_decided is ≡ true → has_disjoint_ands (set_test c is) ≡ true
   set_apart [] h = refl
   set_apart (i ∷ []) h = cuts_apart i.low i.high (and_parts (is_decided i.low i.high) true h).0
   set_apart (i ∷ j ∷ []) h =
       let k = and_parts (is_decided i.low i.high) (are_decided (j ∷ [])) h in
       hole_apart (only_hole i j) (binary Or (between_cuts c i.low i.high) (between_cuts c j.low j.high))
       (or_apart (between_cuts c i.low i.high) (between_cuts c j.low j.high) (cuts_apart i.low i.high k.0) (cuts_apart j.low j.high (and_parts (is_decided j.low j.high) true k.1).0))
-  set_apart (i ∷ j ∷ m ∷ is) h = balanced_has (λ e. is_apart e ≡ true) false either_apart (map (interval_test c) (i ∷ j ∷ m ∷ is)) refl (intervals_apart (i ∷ j ∷ m ∷ is) h)
+  set_apart (i ∷ j ∷ m ∷ is) h = balanced_has (λ e. has_disjoint_ands e ≡ true) false either_apart (map (interval_test c) (i ∷ j ∷ m ∷ is)) refl (intervals_apart (i ∷ j ∷ m ∷ is) h)
 
   -- a set that leaves out a value has no interval of all values
   not_all : (l u : Cut) (v : ScalarValue) (i : Interval) → i.low ≡ l → i.high ≡ u → contains i v ≡ false → (b : Bool) → cuts_all i.low i.high ≡ b → b ≡ false
@@ -515,7 +515,7 @@ module _ (c : Place) where
           closed_decided s.value the_set (set_closed the_set (joined_closed (set_test c the_set) closed)) (value_left_out s)
 
     -- so in a chain by AND or by OR it is one item, which bounds decide
-    pub chain_apart : are_ends_seen c p ≡ true → IsSelective c p → is_chain c (pushed true p) ≡ true → (v : Bool) → (iss : List (List Interval)) × (collected v (pushed true p) [] ≡ inside c false iss ∷ []) × (is_apart (set_test c (combined v iss)) ≡ true)
+    pub chain_apart : are_ends_seen c p ≡ true → IsSelective c p → is_chain c (pushed true p) ≡ true → (v : Bool) → (iss : List (List Interval)) × (collected v (pushed true p) [] ≡ inside c false iss ∷ []) × (has_disjoint_ands (set_test c (combined v iss)) ≡ true)
     chain_apart seen s h v =
         let e = pushed true p in
         let one = the_one c (collected true e []) (collected_one c true e [] h tt) in
@@ -524,5 +524,5 @@ module _ (c : Place) where
         let set = same_set c v e own.0 one.0 own.1 one.1 h own.2 one.2 in (
           own.1,
           own.2 ∙ ap (λ n. inside c n own.1 ∷ []) null,
-          ap (λ is. is_apart (set_test c is)) set ∙ set_apart (combined true one.1) (decided_by one.0 one.1 one.2 s (is_number_type c.dtype) refl seen),
+          ap (λ is. has_disjoint_ands (set_test c is)) set ∙ set_apart (combined true one.1) (decided_by one.0 one.1 one.2 s (is_number_type c.dtype) refl seen),
         )

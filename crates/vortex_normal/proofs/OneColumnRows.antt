@@ -16,7 +16,7 @@ use Rattle.vortex_expr.specs.Patterns.Like.{plain}
 use Rattle.vortex_base.specs.Data.Scalars.{Constant}
 use Rattle.vortex_expr.specs.Trees.Tree.{Tree, Place, column, literal, binary, between, is_null, is_not_null, not, like, stat, row_count}
 use Rattle.vortex_rewrite.specs.Rewriting.Falsifiers.{bool_literal}
-use Rattle.vortex_rewrite.specs.Rewriting.ReadOnce.{is_apart}
+use Rattle.vortex_rewrite.specs.Rewriting.ReadOnce.{has_disjoint_ands}
 use Rattle.vortex_normal.specs.Groups.{normal}
 use Rattle.vortex_normal.specs.OneColumn.{IsJoining, IsSelective, are_ends_seen, is_over}
 use Rattle.vortex_normal.specs.Pushed.{all_of, any_of, comparison, comparison_of, folded, liked, settled}
@@ -147,16 +147,16 @@ selective : IsSelective place_a (either_way 5 9)
 selective = record { row = number_at 3 ∷ []; value = value.Primitive (number.U8 3); cell = refl; of_type = refl; refused = refl; null_refused = refl }
 
 -- so its normal form, one range, is one that bounds decide
-decided : is_apart (normal (either_way 5 9)) ≡ true
+decided : has_disjoint_ands (normal (either_way 5 9)) ≡ true
 unfolding all_of comparison comparison_of folded settled
 decided = refl
 
 -- of one that null satisfies it isn't, nor of one that every value does
-not_null : is_apart (normal (binary Or (compare Gt a 5) (is_null a))) ≡ false
+not_null : has_disjoint_ands (normal (binary Or (compare Gt a 5) (is_null a))) ≡ false
 unfolding all_of any_of comparison comparison_of folded settled
 not_null = refl
 
-not_every_value : is_apart (normal (binary Or (compare Gt a 5) (compare Lt a 9))) ≡ false
+not_every_value : has_disjoint_ands (normal (binary Or (compare Gt a 5) (compare Lt a 9))) ≡ false
 unfolding all_of any_of comparison comparison_of folded settled
 not_every_value = refl
 

@@ -7,7 +7,7 @@ use Rattle.vortex_base.specs.Data.Exact.{both_hold}
 use Rattle.vortex_expr.specs.Trees.Tree.{Tree, Place, binary}
 use Rattle.vortex_expr.specs.declared.scalar_fn.Operator.TheVariants.{And}
 use Rattle.vortex_rewrite.specs.Rewriting.Falsifiers.{bool_literal}
-use Rattle.vortex_rewrite.specs.Rewriting.ReadOnce.{are_apart, are_sides_apart, columns_of, has_index, is_apart, is_simple}
+use Rattle.vortex_rewrite.specs.Rewriting.ReadOnce.{are_apart, are_sides_apart, columns_of, has_index, has_disjoint_ands, is_simple}
 use Rattle.vortex_normal.specs.Balanced.{balanced, first_or, in_turns, paired}
 use Rattle.vortex_normal.specs.Pushed.{all_of, connected, decided}
 use Rattle.vortex_normal.proofs.Pairs.{paired_have, turns_keep}
@@ -44,15 +44,15 @@ apart_before (c ∷ cs) ds es h k =
 
 -- ---- predicates that are apart
 
-pub and_apart : (l r : Tree Place) → is_apart l ≡ true → is_apart r ≡ true → are_apart (columns_of l) (columns_of r) ≡ true → is_apart (binary And l r) ≡ true
+pub and_apart : (l r : Tree Place) → has_disjoint_ands l ≡ true → has_disjoint_ands r ≡ true → are_apart (columns_of l) (columns_of r) ≡ true → has_disjoint_ands (binary And l r) ≡ true
 and_apart l r h k a =
     let p = and_parts (is_simple l) (are_sides_apart l) h in
     let q = and_parts (is_simple r) (are_sides_apart r) k in
     both_hold _ _ (both_hold _ _ p.0 q.0) (both_hold _ _ a (both_hold _ _ p.1 q.1))
 
-both_apart : (l r : Tree Place) → is_apart l ≡ true → is_apart r ≡ true → are_apart (columns_of l) (columns_of r) ≡ true → is_apart (connected true l r) ≡ true
+both_apart : (l r : Tree Place) → has_disjoint_ands l ≡ true → has_disjoint_ands r ≡ true → are_apart (columns_of l) (columns_of r) ≡ true → has_disjoint_ands (connected true l r) ≡ true
 unfolding all_of
-both_apart l r h k a = all_by_kept (λ e. is_apart e ≡ true) l r h k (decided l) (decided r) (and_apart l r h k a)
+both_apart l r h k a = all_by_kept (λ e. has_disjoint_ands e ≡ true) l r h k (decided l) (decided r) (and_apart l r h k a)
 
 -- a predicate's columns are apart from the list's
 abbrev pub IsApartFrom : List Place → Tree Place → Type 0
@@ -61,7 +61,7 @@ IsApartFrom cs e = are_apart cs (columns_of e) ≡ true
 -- each is decided by bounds, and has no column in common with one behind it
 abbrev pub AreApart : List (Tree Place) → Type 0
 AreApart [] = Unit {0}
-AreApart (e ∷ es) = (is_apart e ≡ true) × (AllByRecursion (IsApartFrom (columns_of e)) es × AreApart es)
+AreApart (e ∷ es) = (has_disjoint_ands e ≡ true) × (AllByRecursion (IsApartFrom (columns_of e)) es × AreApart es)
 
 both_from : (cs : List Place) (l r : Tree Place) → IsApartFrom cs l → IsApartFrom cs r → IsApartFrom cs (connected true l r)
 unfolding all_of
@@ -89,12 +89,12 @@ paired_apart (a ∷ b ∷ es) h =
       ),
     )
 
-first_apart : (es : List (Tree Place)) → AreApart es → is_apart (first_or (bool_literal true) es) ≡ true
+first_apart : (es : List (Tree Place)) → AreApart es → has_disjoint_ands (first_or (bool_literal true) es) ≡ true
 first_apart [] h = refl
 first_apart (e ∷ es) h = h.0
 
-balanced_apart : (es : List (Tree Place)) → AreApart es → is_apart (balanced true es) ≡ true
+balanced_apart : (es : List (Tree Place)) → AreApart es → has_disjoint_ands (balanced true es) ≡ true
 balanced_apart es h = first_apart (in_turns (length es) true es) (turns_keep AreApart true paired_apart (length es) es h)
 
-pub all_apart : (es : List (Tree Place)) → AreApart es → is_apart (connected true (balanced true es) (bool_literal true)) ≡ true
+pub all_apart : (es : List (Tree Place)) → AreApart es → has_disjoint_ands (connected true (balanced true es) (bool_literal true)) ≡ true
 all_apart es h = both_apart (balanced true es) (bool_literal true) (balanced_apart es h) refl (none_apart (columns_of (balanced true es)))

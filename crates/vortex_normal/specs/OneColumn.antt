@@ -10,7 +10,7 @@ use Rattle.vortex_expr.specs.Trees.TreeEq.{place_eq}
 use Rattle.vortex_base.specs.declared.scalar_value.ScalarValue.{ScalarValue}
 use Rattle.vortex_expr.specs.declared.scalar_fn.Operator.TheVariants.{And, Or}
 use Rattle.vortex_rewrite.specs.Rewriting.Predicates.{is_predicate}
-use Rattle.vortex_rewrite.specs.Rewriting.ReadOnce.{are_apart, columns_of, has_closed_end, is_apart, is_number_type, is_simple_binary}
+use Rattle.vortex_rewrite.specs.Rewriting.ReadOnce.{are_apart, columns_of, has_closed_end, has_disjoint_ands, is_number_type, is_simple_binary}
 use Rattle.vortex_normal.specs.Groups.{normal}
 use Rattle.vortex_normal.specs.Pushed.{as_comparisons, or_not}
 
@@ -56,7 +56,7 @@ are_ends_seen c p = is_number_type c.dtype || not_b (some_node is_open_range (no
 
 -- the normal form of a selective predicate over one column is one that bounds decide
 abbrev pub OneColumnIsApart : Type 0
-OneColumnIsApart = (c : Place) (p : Tree Place) → IsTrue (is_predicate p) → IsTrue (is_over c p) → IsTrue (are_ends_seen c p) → IsSelective c p → IsTrue (is_apart (normal p))
+OneColumnIsApart = (c : Place) (p : Tree Place) → IsTrue (is_predicate p) → IsTrue (is_over c p) → IsTrue (are_ends_seen c p) → IsSelective c p → IsTrue (has_disjoint_ands (normal p))
 
 -- ---- joinings of predicates over different columns
 
@@ -73,4 +73,4 @@ IsJoining w e = IsOneOf w e
 
 -- the normal form of such a joining is one that bounds decide
 abbrev pub JoiningsAreApart : Type 0
-JoiningsAreApart = (p : Tree Place) → IsTrue (is_predicate p) → IsTrue (is_plain p) → IsJoining true p → IsTrue (is_apart (normal p))
+JoiningsAreApart = (p : Tree Place) → IsTrue (is_predicate p) → IsTrue (is_plain p) → IsJoining true p → IsTrue (has_disjoint_ands (normal p))

@@ -9,7 +9,7 @@ ghost use Rattle.vortex_rewrite.specs.Answers.{Makes};
 ghost use Rattle.vortex_normal.specs.Ends as ends;
 ghost use Rattle.vortex_normal.specs.Intervals.{place_at};
 
-use crate::tests_of::compared;
+use crate::range_predicate::compared;
 use std::alloc::Global;
 use std::cmp::Ordering;
 use vortex_base::dtype::DType;
@@ -20,7 +20,7 @@ use vortex_expr::bound;
 use vortex_expr::bound_expression::BoundExpression;
 use vortex_expr::bound_expression::parts::Parts;
 use vortex_expr::scalar_fn::Operator;
-use vortex_rewrite::built::built;
+use vortex_rewrite::built::expect_memory_only;
 use vortex_rewrite::predicate::Predicate;
 use vortex_stats::error::StatsError;
 
@@ -117,7 +117,7 @@ fn each_value(
     ensures { Makes (ends.each_value (place_at place dtype) truth) result }
 {
     if truth {
-        let column = built(bound::col(alloc, place, dtype))?;
+        let column = expect_memory_only(bound::col(alloc, place, dtype))?;
         Predicate::is_not_null(alloc, &column)
     } else {
         Predicate::truth(alloc, false)

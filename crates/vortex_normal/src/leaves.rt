@@ -21,7 +21,7 @@ use vortex_expr::bound_expression::BoundExpression;
 use vortex_expr::bound_expression::parts::Parts;
 use vortex_expr::evaluate::evaluate;
 use vortex_expr::scalar_fn::Operator;
-use vortex_rewrite::built::{built, cloned};
+use vortex_rewrite::built::{cloned, expect_memory_only};
 use vortex_rewrite::predicate::Predicate;
 use vortex_stats::error::StatsError;
 
@@ -88,7 +88,7 @@ fn nullable_truth(alloc: Global, value: Option<ScalarValue>) -> Result<BoundExpr
     ensures { Makes (tree.literal (record { dtype = DType.Bool Nullable; value = value })) result }
 {
     match Scalar::try_new(DType::Bool(Nullability::Nullable), value) {
-        Ok(scalar) => built(bound::lit(alloc, scalar)),
+        Ok(scalar) => expect_memory_only(bound::lit(alloc, scalar)),
         Err(_) => unreachable!(),
     }
 }
@@ -103,7 +103,7 @@ fn truth_of(alloc: Global, e: &BoundExpression) -> Result<BoundExpression, Stats
         Makes (tree.literal (record { dtype = DType.Bool Nullable; value = value })) result }
 {
     let _typed = e.dtype();
-    let value = built(evaluate(e, &Row::empty(), 0))?;
+    let value = expect_memory_only(evaluate(e, &Row::empty(), 0))?;
     nullable_truth(alloc, value)
 }
 

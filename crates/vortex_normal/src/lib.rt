@@ -13,7 +13,7 @@ mod links;
 mod narrowed;
 pub mod normalize;
 mod pushed;
+mod range_predicate;
 mod ranges;
 mod strict;
 mod tested;
-mod tests_of;

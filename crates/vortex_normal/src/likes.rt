@@ -25,7 +25,7 @@ use vortex_expr::bound_expression::BoundExpression;
 use vortex_expr::like::LikeOptions;
 use vortex_expr::like_pattern::{LikePattern, successor};
 use vortex_expr::scalar_fn::Operator;
-use vortex_rewrite::built::built;
+use vortex_rewrite::built::expect_memory_only;
 use vortex_rewrite::predicate::Predicate;
 use vortex_stats::error::StatsError;
 
@@ -35,7 +35,7 @@ fn utf8_literal(alloc: Global, text: Text) -> Result<BoundExpression, StatsError
 {
     let dtype = DType::Utf8(Nullability::NonNullable);
     match Scalar::try_new(dtype, Some(ScalarValue::Utf8(text))) {
-        Ok(scalar) => built(bound::lit(alloc, scalar)),
+        Ok(scalar) => expect_memory_only(bound::lit(alloc, scalar)),
         Err(_) => unreachable!(),
     }
 }
@@ -151,7 +151,7 @@ fn read_exact(alloc: Global, pattern: &str) -> Result<Option<LikePattern>, Stats
         (is_exact read ≡ false)
         (λ p. (is_exact read ≡ true) × (p.prefix ≡ encode_utf8_all (literal_prefix read)))) }
 {
-    let read = built(LikePattern::try_read(alloc, pattern))?;
+    let read = expect_memory_only(LikePattern::try_read(alloc, pattern))?;
     match read.exact() {
         Some(_) => Ok(Some(read)),
         None => Ok(None),
@@ -227,7 +227,7 @@ fn items_matched(
     requires { IsTrue (is_text text.now) }
     ensures { Makes (normal.items_matched wanted text.now (items (chars pattern.now))) result }
 {
-    let read = built(LikePattern::try_read(alloc, pattern))?;
+    let read = expect_memory_only(LikePattern::try_read(alloc, pattern))?;
     match read.exact() {
         Some(exact) => Ok(Some(same_text(alloc, wanted, text, exact)?)),
         None => begins(alloc, wanted, text, pattern),

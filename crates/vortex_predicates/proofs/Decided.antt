@@ -16,10 +16,10 @@ use Rattle.vortex_zone_map.specs.Zone.{AreZonesOf, ZoneData}
 use Rattle.vortex_prune.specs.Scanning.Selection.{proves_of}
 use Rattle.vortex_rewrite.specs.Rewriting.Falsifiers.{falsifier}
 use Rattle.vortex_rewrite.specs.Rewriting.Predicates.{is_predicate}
-use Rattle.vortex_rewrite.specs.Rewriting.ReadOnce.{is_apart}
+use Rattle.vortex_rewrite.specs.Rewriting.ReadOnce.{has_disjoint_ands}
 
 -- the zones that a predicate's own falsifier skips are all that have to be, where its ANDs are apart
-own_complete : (p : Tree Place) (scope : List Named) (zones : List ZoneData) (skipped : List ℕ) → SkipsNoFewer [] p scope zones skipped → IsTrue (is_predicate p) → IsTrue (fits_scope p scope) → AreZonesOf scope zones → IsTrue (is_apart p)
+own_complete : (p : Tree Place) (scope : List Named) (zones : List ZoneData) (skipped : List ℕ) → SkipsNoFewer [] p scope zones skipped → IsTrue (is_predicate p) → IsTrue (fits_scope p scope) → AreZonesOf scope zones → IsTrue (has_disjoint_ands p)
     → SkipsUnsatisfiable p zones skipped
 own_complete p scope zones skipped no_fewer predicate fits are apart i zone box there is_box order none =
     let t = typed_bool p (type_of p) refl predicate in
@@ -28,8 +28,8 @@ own_complete p scope zones skipped no_fewer predicate fits are apart i zone box 
 
 -- by the predicate as it is, or by its normal form
 pub decided_complete : (levels : Option ℕ) (p : Tree Place) (scope : List Named) (zones : List ZoneData) (skipped : List ℕ) → SkipsNoFewer [] p scope zones skipped → IsTrue (is_predicate p) → IsTrue (fits_scope p scope) → AreZonesOf scope zones
-    → (IsTrue (is_within levels (normal p)) → IsTrue (is_apart (normal p)) → SkipsUnsatisfiable p zones skipped) → IsTrue (is_decided levels p) → SkipsUnsatisfiable p zones skipped
+    → (IsTrue (is_within levels (normal p)) → IsTrue (has_disjoint_ands (normal p)) → SkipsUnsatisfiable p zones skipped) → IsTrue (is_decided levels p) → SkipsUnsatisfiable p zones skipped
 decided_complete levels p scope zones skipped no_fewer predicate fits are by_form decided =
-    ⊎_elim {B = IsTrue (is_within levels (normal p) && is_apart (normal p))} (λ apart. own_complete p scope zones skipped no_fewer predicate fits are apart)
-    (λ form. let both = and_parts (is_within levels (normal p)) (is_apart (normal p)) form in by_form both.0 both.1)
-    (or_cases (is_apart p) (is_within levels (normal p) && is_apart (normal p)) decided)
+    ⊎_elim {B = IsTrue (is_within levels (normal p) && has_disjoint_ands (normal p))} (λ apart. own_complete p scope zones skipped no_fewer predicate fits are apart)
+    (λ form. let both = and_parts (is_within levels (normal p)) (has_disjoint_ands (normal p)) form in by_form both.0 both.1)
+    (or_cases (has_disjoint_ands p) (is_within levels (normal p) && has_disjoint_ands (normal p)) decided)

@@ -41,7 +41,7 @@ use Rattle.vortex_rewrite.specs.Rewriting.Falsifiers.{falsifier, satisfier}
 use Rattle.vortex_rewrite.specs.Rewriting.Lawful.{OwnRule}
 use Rattle.vortex_rewrite.specs.Rewriting.Predicates.{is_predicate}
 use Rattle.vortex_rewrite.specs.Rewriting.Proof.{is_open}
-use Rattle.vortex_rewrite.specs.Rewriting.ReadOnce.{is_apart}
+use Rattle.vortex_rewrite.specs.Rewriting.ReadOnce.{has_disjoint_ands}
 use Rattle.vortex_stats.specs.Bounds.Order.{AtMost}
 use Rattle.vortex_stats.specs.declared.error.BinderFault.TheVariants as binder_fault
 use Rattle.vortex_stats.specs.declared.error.RuleFault.TheVariants as rule_fault
@@ -213,7 +213,7 @@ module _ (f s : Option (Tree Place)) (scope : List Named) (zones : List ZoneData
 
     -- ---- completeness
 
-    module _ (levels : Option ℕ) (p : Tree Place) (made : f ≡ skip_proof [] levels p) (within : IsTrue (is_within levels (normal p))) (fits : IsTrue (fits_scope p scope)) (plain : IsTrue (is_plain p)) (same : HasRowsOf p (normal p)) (are : AreZonesOf scope zones) (apart : IsTrue (is_apart (normal p))) where
+    module _ (levels : Option ℕ) (p : Tree Place) (made : f ≡ skip_proof [] levels p) (within : IsTrue (is_within levels (normal p))) (fits : IsTrue (fits_scope p scope)) (plain : IsTrue (is_plain p)) (same : HasRowsOf p (normal p)) (are : AreZonesOf scope zones) (apart : IsTrue (has_disjoint_ands (normal p))) where
       pub normal_complete : SkipsUnsatisfiable (normal p) zones (skipped_places vs)
       normal_complete i zone box there is_box order none =
           let t = typed_bool (normal p) (type_of (normal p)) refl same.predicate in

@@ -9,7 +9,7 @@ use Rattle.vortex_expr.specs.Trees.Tree.{Tree, Place, binary, column, literal}
 use Rattle.vortex_expr.specs.declared.scalar_fn.Operator.TheVariants.{And, Or}
 use Rattle.vortex_predicates.specs.Complete.{HasIndexesOf}
 use Rattle.vortex_predicates.specs.NullBoxes.{is_null_apart, is_simple_or_null}
-use Rattle.vortex_rewrite.specs.Rewriting.ReadOnce.{are_apart, are_distinct, are_sides_apart, columns_of, has_index, is_apart, is_operand, is_simple}
+use Rattle.vortex_rewrite.specs.Rewriting.ReadOnce.{are_apart, are_distinct, are_sides_apart, columns_of, has_index, has_disjoint_ands, is_operand, is_simple}
 use mathlib.Core.Bool.{true≢false}
 
 or_assoc : (a b c : Bool) → (a || (b || c)) ≡ ((a || b) || c)
@@ -61,10 +61,10 @@ of_or true false false y = refl
 of_or true false true y = refl
 of_or true true x y = refl
 
-pub and_is_apart : (l r : Tree Place) → is_apart (binary And l r) ≡ (are_apart (columns_of l) (columns_of r) && (is_apart l && is_apart r))
+pub and_is_apart : (l r : Tree Place) → has_disjoint_ands (binary And l r) ≡ (are_apart (columns_of l) (columns_of r) && (has_disjoint_ands l && has_disjoint_ands r))
 and_is_apart l r = of_and (is_simple l) (is_simple r) (are_apart (columns_of l) (columns_of r)) (are_sides_apart l) (are_sides_apart r)
 
-pub or_is_apart : (l r : Tree Place) → is_apart (binary Or l r) ≡ (is_apart l && is_apart r)
+pub or_is_apart : (l r : Tree Place) → has_disjoint_ands (binary Or l r) ≡ (has_disjoint_ands l && has_disjoint_ands r)
 or_is_apart l r = of_or (is_simple l) (is_simple r) (are_sides_apart l) (are_sides_apart r)
 
 -- and with null tests

@@ -39,7 +39,7 @@ use Rattle.vortex_rewrite.proofs.Soundness.TruthLogic.{clash, refuted, true_and,
 use Rattle.vortex_rewrite.proofs.Soundness.ValueTests.{le_refl}
 use Rattle.vortex_rewrite.specs.Rewriting.Predicates.{has_type, is_predicate}
 use Rattle.vortex_rewrite.specs.Rewriting.Proof.{Assignment, value_under}
-use Rattle.vortex_rewrite.specs.Rewriting.ReadOnce.{IsSatisfiable, IsWithin, are_apart, are_sides_apart, columns_of, has_index, is_apart, is_operand}
+use Rattle.vortex_rewrite.specs.Rewriting.ReadOnce.{IsSatisfiable, IsWithin, are_apart, are_sides_apart, columns_of, has_index, has_disjoint_ands, is_operand}
 use Rattle.vortex_stats.specs.Sets.Entries.{entry_value}
 use Rattle.vortex_stats.specs.declared.stat.Stat.TheVariants.{NullCount}
 
@@ -404,7 +404,7 @@ module _ (scope : List Named) (zone : ZoneData) (is_zone : IsZone scope zone) (r
       told : Says answers zone.rows q says
       finds : says ≡ false → ¬ IsSatisfiable q box.bounds zone.rows → ⊥
 
-    leaf : (q : Tree Place) → is_apart q ≡ true → is_predicate q ≡ true → fits_scope q scope ≡ true → AllByRecursion Known (columns_of q) → AllByRecursion IsValued (columns_of q) → goes_far zone box q ≡ true → Leaf q
+    leaf : (q : Tree Place) → has_disjoint_ands q ≡ true → is_predicate q ≡ true → fits_scope q scope ≡ true → AllByRecursion Known (columns_of q) → AllByRecursion IsValued (columns_of q) → goes_far zone box q ≡ true → Leaf q
     leaf q apart predicate fits known_q valued_q far =
         let sides = all_map_both Known IsValued (HasSides scope zone is_zone box) (columns_of q) has_sides known_q valued_q in
         let d = far_falsifier scope zone is_zone box q apart predicate fits sides far in
@@ -415,7 +415,7 @@ module _ (scope : List Named) (zone : ZoneData) (is_zone : IsZone scope zone) (r
         }
 
     -- a leaf that needs no test
-    plain_good : (q : Tree Place) → is_apart q ≡ true → is_predicate q ≡ true → fits_scope q scope ≡ true → AllByRecursion Known (columns_of q) → AllByRecursion IsValued (columns_of q) → goes_far zone box q ≡ true → Good q q
+    plain_good : (q : Tree Place) → has_disjoint_ands q ≡ true → is_predicate q ≡ true → fits_scope q scope ≡ true → AllByRecursion Known (columns_of q) → AllByRecursion IsValued (columns_of q) → goes_far zone box q ≡ true → Good q q
     plain_good q apart predicate fits known_q valued_q far =
         let x = leaf q apart predicate fits known_q valued_q far in
         record {
@@ -432,7 +432,7 @@ module _ (scope : List Named) (zone : ZoneData) (is_zone : IsZone scope zone) (r
       told : Says answers zone.rows q says
       finds : says ≡ false → ¬ Chosen q (binary And q (is_not_null (column c))) → ⊥
 
-    rested_leaf : (q : Tree Place) → is_apart q ≡ true → is_predicate q ≡ true → fits_scope q scope ≡ true → AllByRecursion Known (columns_of q) → (c : Place) → columns_of q ≡ c ∷ [] → IsValued c → goes_far zone box q ≡ true → Rested q c
+    rested_leaf : (q : Tree Place) → has_disjoint_ands q ≡ true → is_predicate q ≡ true → fits_scope q scope ≡ true → AllByRecursion Known (columns_of q) → (c : Place) → columns_of q ≡ c ∷ [] → IsValued c → goes_far zone box q ≡ true → Rested q c
     rested_leaf q apart predicate fits known_q c alone h far =
         let valued_q = subst (λ (cs : List Place). AllByRecursion IsValued cs) (sym alone) (h, tt) in
         let x = leaf q apart predicate fits known_q valued_q far in
@@ -520,7 +520,7 @@ module _ (scope : List Named) (zone : ZoneData) (is_zone : IsZone scope zone) (r
     -- ---- other leaves
 
     -- a comparison of two columns, each with a test of it
-    module _ (q : Tree Place) (c d : Place) (alone : columns_of q ≡ c ∷ (d ∷ [])) (apart : is_apart q ≡ true) (predicate : is_predicate q ≡ true) (fits : fits_scope q scope ≡ true)
+    module _ (q : Tree Place) (c d : Place) (alone : columns_of q ≡ c ∷ (d ∷ [])) (apart : has_disjoint_ands q ≡ true) (predicate : is_predicate q ≡ true) (fits : fits_scope q scope ≡ true)
         (known_q : AllByRecursion Known (columns_of q)) (known_c : Known c) (known_d : Known d) (far : goes_far zone box q ≡ true) where
       abbrev with_first : Tree Place
       with_first = binary And q (is_not_null (column c))
@@ -567,7 +567,7 @@ module _ (scope : List Named) (zone : ZoneData) (is_zone : IsZone scope zone) (r
           }
 
     -- a comparison of columns and literals
-    comparison : (q l r : Tree Place) → columns_of q ≡ columns_of l ++ columns_of r → rests_on q ≡ column_beside l r → is_simple_or_null q ≡ true → are_sides_apart q ≡ true → is_apart q ≡ true → (is_operand l && is_operand r) ≡ true → goes_far zone box q ≡ true
+    comparison : (q l r : Tree Place) → columns_of q ≡ columns_of l ++ columns_of r → rests_on q ≡ column_beside l r → is_simple_or_null q ≡ true → are_sides_apart q ≡ true → has_disjoint_ands q ≡ true → (is_operand l && is_operand r) ≡ true → goes_far zone box q ≡ true
         → is_predicate (valued (column_beside l r) (both_valued l r q)) ≡ true → fits_scope (valued (column_beside l r) (both_valued l r q)) scope ≡ true → AllByRecursion Known (columns_of (valued (column_beside l r) (both_valued l r q)))
         → Good q (valued (column_beside l r) (both_valued l r q))
     comparison q (column c) (literal d) alone rests simple sides apart operands far p f k = rested_good q q (column c) simple sides rests refl far p f k

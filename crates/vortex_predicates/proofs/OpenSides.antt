@@ -47,7 +47,7 @@ use Rattle.vortex_rewrite.specs.Rewriting.Falsifiers.{bool_literal, both_of, clo
 use Rattle.vortex_rewrite.specs.Rewriting.Lawful.{OwnRule}
 use Rattle.vortex_rewrite.specs.Rewriting.Predicates.{is_predicate}
 use Rattle.vortex_rewrite.specs.Rewriting.Proof.{Assignment, value_under}
-use Rattle.vortex_rewrite.specs.Rewriting.ReadOnce.{IsSatisfiable, are_sides_apart, columns_of, is_apart, is_operand, is_simple}
+use Rattle.vortex_rewrite.specs.Rewriting.ReadOnce.{IsSatisfiable, are_sides_apart, columns_of, has_disjoint_ands, is_operand, is_simple}
 use Rattle.vortex_stats.proofs.Kit.{entry_value-fits}
 use Rattle.vortex_stats.specs.Bounds.Order.{AtMost}
 use Rattle.vortex_stats.specs.Precision.{present_value}
@@ -608,7 +608,7 @@ module _ (scope : List Named) (zone : ZoneData) (is_zone : IsZone scope zone) (b
   lifts (stat f x) simple ok sides far = cc
   lifts row_count simple ok sides far = cc
 
-  pub far_falsifier : (q : Tree Place) → is_apart q ≡ true → is_predicate q ≡ true → fits_scope q scope ≡ true → AllByRecursion HasSides (columns_of q) → goes_far zone box q ≡ true
+  pub far_falsifier : (q : Tree Place) → has_disjoint_ands q ≡ true → is_predicate q ≡ true → fits_scope q scope ≡ true → AllByRecursion HasSides (columns_of q) → goes_far zone box q ≡ true
       → (e : Tree Place) × (falsifier [] q ≡ Some e) × (¬ IsSatisfiable q box.bounds zone.rows → is_true (value_under answers zone.rows e) ≡ true)
   far_falsifier q apart predicate fits sides far =
       let k = and_parts (is_simple q) (are_sides_apart q) apart in

@@ -40,7 +40,7 @@ use Rattle.vortex_rewrite.specs.Causes.{IsRefusal, either_causes}
 use Rattle.vortex_rewrite.specs.Rewriting.Falsifiers.{node, reduce_balanced}
 use Rattle.vortex_rewrite.specs.Rewriting.Lawful.{OwnRule}
 use Rattle.vortex_rewrite.specs.Rewriting.Predicates.{is_predicate}
-use Rattle.vortex_rewrite.specs.Rewriting.ReadOnce.{Box, IsInOrder, IsSatisfiable, is_apart}
+use Rattle.vortex_rewrite.specs.Rewriting.ReadOnce.{Box, IsInOrder, IsSatisfiable, has_disjoint_ands}
 use Rattle.vortex_rewrite.specs.Rewriting.RuleRefusals.{SomeAsked}
 use Rattle.vortex_rewrite.specs.Rewriting.Visited.{visited}
 use Rattle.vortex_stats.specs.declared.error.RuleFault.TheVariants.{Own}
@@ -219,12 +219,12 @@ prune_no_fewer_whole : IsWitness (IsCall made their_map × IsMapOf zones their_m
     (λ (vs : List Verdict). FindsNoFewerWhole [] made.predicate their_map.scope zones (skipped_places vs) (whole_places vs)) (Skipped ∷ Tested ∷ Tested ∷ [])
 prune_no_fewer_whole = record { met = (called, is_map, is_made); refuted = high_is_not_there }
 
-prune_complete : IsWitness (IsCall made their_map × IsMapOf zones their_map × IsMadeBy [] None made × IsTrue (is_within None (normal made.predicate)) × IsTrue (is_apart (normal made.predicate)))
+prune_complete : IsWitness (IsCall made their_map × IsMapOf zones their_map × IsMadeBy [] None made × IsTrue (is_within None (normal made.predicate)) × IsTrue (has_disjoint_ands (normal made.predicate)))
     (λ (vs : List Verdict). SkipsUnsatisfiable (normal made.predicate) zones (skipped_places vs)) left_out
 unfolding all_of comparison comparison_of folded settled
 prune_complete = record { met = (called, is_map, is_made, refl, refl); refuted = low_is_left_out_by_normal }
 
-prune_as_given : IsWitness (IsCall made their_map × IsMapOf zones their_map × IsMadeBy [] None made × IsTrue (is_within None (normal made.predicate)) × IsTrue (is_apart (normal made.predicate)))
+prune_as_given : IsWitness (IsCall made their_map × IsMapOf zones their_map × IsMadeBy [] None made × IsTrue (is_within None (normal made.predicate)) × IsTrue (has_disjoint_ands (normal made.predicate)))
     (λ (vs : List Verdict). SkipsUnsatisfiable made.predicate zones (skipped_places vs)) left_out
 unfolding all_of comparison comparison_of folded settled
 prune_as_given = record { met = (called, is_map, is_made, refl, refl); refuted = low_is_left_out }

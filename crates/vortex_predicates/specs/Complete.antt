@@ -5,11 +5,11 @@ use Rattle.std.specs.Ordering.{nat_cmp}
 use Rattle.vortex_expr.specs.Trees.Tree.{Tree, Place}
 use Rattle.vortex_normal.specs.Groups.{normal}
 use Rattle.vortex_predicates.specs.Pruning.{is_within}
-use Rattle.vortex_rewrite.specs.Rewriting.ReadOnce.{has_index, is_apart}
+use Rattle.vortex_rewrite.specs.Rewriting.ReadOnce.{has_index, has_disjoint_ands}
 
 -- the predicate as it is, or its normal form, unless that has more levels, is a tree of AND and OR over comparisons, ranges and truths in which the sides of no AND share a column
 abbrev pub is_decided : (levels : Option ℕ) → Tree Place → Bool
-is_decided levels p = is_apart p || (is_within levels (normal p) && is_apart (normal p))
+is_decided levels p = has_disjoint_ands p || (is_within levels (normal p) && has_disjoint_ands (normal p))
 
 -- ---- the columns of such a tree, as a set of places
 

@@ -167,7 +167,7 @@ fn truth(alloc: Global, value: &Scalar) -> Option<BTreeSet<usize>>
 
 // Returns the places of the columns of a tree that bounds decide, and `None` for any other tree.
 fn indexes(alloc: Global, e: &BoundExpression) -> Result<Option<BTreeSet<usize>>, AllocError>
-    ensures { IfOk result (AreIndexesIf (read_once.is_apart e.now) (columns_of e.now)) }
+    ensures { IfOk result (AreIndexesIf (read_once.has_disjoint_ands e.now) (columns_of e.now)) }
 {
     match e.parts() {
         Parts::Binary(Operator::And, left, right) => {
@@ -187,8 +187,8 @@ fn indexes(alloc: Global, e: &BoundExpression) -> Result<Option<BTreeSet<usize>>
     }
 }
 
-fn is_apart(alloc: Global, e: &BoundExpression) -> Result<bool, AllocError>
-    ensures { IfOk result (λ apart. apart ≡ read_once.is_apart e.now) }
+fn has_disjoint_ands(alloc: Global, e: &BoundExpression) -> Result<bool, AllocError>
+    ensures { IfOk result (λ apart. apart ≡ read_once.has_disjoint_ands e.now) }
 {
     Ok(indexes(alloc, e)?.is_some())
 }
@@ -323,11 +323,11 @@ pub fn is_complete_for(
     ensures memory { IsTrue (is_predicate predicate.now) → IfErr result IsMemory }
 {
     let normal = normalize(alloc, predicate)?;
-    if is_apart(alloc, predicate)? {
+    if has_disjoint_ands(alloc, predicate)? {
         return Ok(true);
     }
     if !is_shallow(&normal, levels) {
         return Ok(false);
     }
-    Ok(is_apart(alloc, &normal)?)
+    Ok(has_disjoint_ands(alloc, &normal)?)
 }

@@ -18,7 +18,7 @@ use vortex_expr::bound_expression::BoundExpression;
 use vortex_expr::bound_expression::parts::Parts;
 use vortex_expr::like::LikeOptions;
 use vortex_expr::scalar_fn::Operator;
-use vortex_rewrite::built::{built, cloned};
+use vortex_rewrite::built::{cloned, expect_memory_only};
 use vortex_rewrite::rewrite::falsify;
 use vortex_rewrite::rewrite::rule::StatsRewriteRule;
 use vortex_rewrite::rewrite::rules::Rules;
@@ -52,7 +52,7 @@ fn bound_of(
     ensures { Makes (tree.stat aggregate text.now) result }
 {
     let input = cloned(text)?;
-    built(bound::new_stat(alloc, input, aggregate))
+    expect_memory_only(bound::new_stat(alloc, input, aggregate))
 }
 
 // Whether the least value of a text is its greatest.
@@ -62,7 +62,7 @@ fn equal_bounds(alloc: Global, text: &BoundExpression) -> Result<BoundExpression
 {
     let least = bound_of(alloc, AggregateFnRef::Min, text)?;
     let greatest = bound_of(alloc, AggregateFnRef::Max, text)?;
-    built(bound::eq(alloc, least, greatest))
+    expect_memory_only(bound::eq(alloc, least, greatest))
 }
 
 // Whether the least value of a text doesn't match a pattern.
@@ -79,7 +79,7 @@ fn least_differs(
 {
     let least = bound_of(alloc, AggregateFnRef::Min, text)?;
     let pattern = cloned(pattern)?;
-    built(bound::like_with(alloc, least, pattern, opposite(options)))
+    expect_memory_only(bound::like_with(alloc, least, pattern, opposite(options)))
 }
 
 // The proof that no row satisfies a LIKE, by the one value of its column.

@@ -12,7 +12,7 @@ use vortex_expr::bound;
 use vortex_expr::bound_expression::BoundExpression;
 use vortex_expr::bound_expression::parts::Parts;
 use vortex_expr::scalar_fn::Operator;
-use vortex_rewrite::built::built;
+use vortex_rewrite::built::expect_memory_only;
 use vortex_stats::error::StatsError;
 
 // Whether the shapes of two proofs show that the first is true where the second is.
@@ -43,7 +43,7 @@ fn either(
     ensures truth { IfOk result (λ e. IsTrue (is_predicate e)) }
     ensures memory { IfErr result IsMemory }
 {
-    built(bound::binary(alloc, Operator::Or, first, second))
+    expect_memory_only(bound::binary(alloc, Operator::Or, first, second))
 }
 
 /// A proof that is true where either of two is, if there is one: the second alone if its shape
@@ -86,7 +86,7 @@ pub(crate) fn both(
 {
     match (first, second) {
         (Some(first), Some(second)) => {
-            let both = built(bound::binary(alloc, Operator::And, first, second))?;
+            let both = expect_memory_only(bound::binary(alloc, Operator::And, first, second))?;
             Ok(Some(both))
         }
         _ => Ok(None),

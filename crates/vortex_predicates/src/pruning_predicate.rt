@@ -12,7 +12,7 @@ ghost use Rattle.vortex_rewrite.specs.Rewriting.Falsifiers.{satisfier as satisfi
 ghost use Rattle.vortex_rewrite.specs.Rewriting.Lawful.{OwnRule};
 ghost use Rattle.vortex_rewrite.specs.Rewriting.Own.{own_rules};
 ghost use Rattle.vortex_rewrite.specs.Rewriting.Predicates.{is_predicate};
-ghost use Rattle.vortex_rewrite.specs.Rewriting.ReadOnce.{is_apart};
+ghost use Rattle.vortex_rewrite.specs.Rewriting.ReadOnce.{has_disjoint_ands};
 ghost use Rattle.vortex_zone_map.specs.Zone.{ZoneData};
 ghost use Rattle.vortex_prune.specs.Scanning.ZoneScans.{AreRowVerdicts, IsSoundPruning, kept_zones};
 ghost use Rattle.vortex_prune.specs.Scanning.ZoneScans.{open_causes, zone_verdicts};
@@ -391,13 +391,13 @@ impl PruningPredicate {
         ensures complete { IfOk result (λ vs. (zones : List ZoneData) → IsMapOf zones map.now
             → (levels : Option ℕ) → IsMadeBy [] levels self.now
             → IsTrue (is_within levels (normal_of self.now.predicate))
-            → IsTrue (is_apart (normal_of self.now.predicate))
+            → IsTrue (has_disjoint_ands (normal_of self.now.predicate))
             → SkipsUnsatisfiable (normal_of self.now.predicate) zones (skipped_places vs.items)) }
         // And if none satisfy the predicate as it was given.
         ensures as_given { IfOk result (λ vs. (zones : List ZoneData) → IsMapOf zones map.now
             → (levels : Option ℕ) → IsMadeBy [] levels self.now
             → IsTrue (is_within levels (normal_of self.now.predicate))
-            → IsTrue (is_apart (normal_of self.now.predicate))
+            → IsTrue (has_disjoint_ands (normal_of self.now.predicate))
             → SkipsUnsatisfiable self.now.predicate zones (skipped_places vs.items)) }
         // So it is of every predicate over one column that neither null satisfies nor every
         // value; of texts, bytes and truths where it comes to no range that is open at both ends.

@@ -22,7 +22,7 @@ use vortex_base::dtype::DType;
 use vortex_expr::bound;
 use vortex_expr::bound_expression::BoundExpression;
 use vortex_expr::bound_expression::parts::Parts;
-use vortex_rewrite::built::built;
+use vortex_rewrite::built::expect_memory_only;
 use vortex_rewrite::hook_fault::HookFault;
 use vortex_stats::error::{BinderFault, StatsError};
 
@@ -93,29 +93,38 @@ fn bound_stats<B: StatBinder>(
 {
     let dtype = e.dtype();
     match e.parts() {
-        Parts::Column(place, _) => built(bound::col(alloc, place, dtype)),
-        Parts::Literal(value) => built(bound::lit(alloc, built(value.try_clone())?)),
+        Parts::Column(place, _) => expect_memory_only(bound::col(alloc, place, dtype)),
+        Parts::Literal(value) => expect_memory_only(bound::lit(
+            alloc,
+            expect_memory_only(value.try_clone())?,
+        )),
         Parts::Binary(operator, left, right) => {
             let left = bound_stats(alloc, left, binder)?;
             let right = bound_stats(alloc, right, binder)?;
-            built(bound::binary(alloc, operator, left, right))
+            expect_memory_only(bound::binary(alloc, operator, left, right))
         }
         Parts::Between(options, x, lower, upper) => {
             let x = bound_stats(alloc, x, binder)?;
             let lower = bound_stats(alloc, lower, binder)?;
             let upper = bound_stats(alloc, upper, binder)?;
-            built(bound::between(alloc, x, lower, upper, options))
+            expect_memory_only(bound::between(alloc, x, lower, upper, options))
         }
-        Parts::IsNull(x) => built(bound::is_null(alloc, bound_stats(alloc, x, binder)?)),
-        Parts::IsNotNull(x) => built(bound::is_not_null(alloc, bound_stats(alloc, x, binder)?)),
-        Parts::Not(x) => built(bound::not(alloc, bound_stats(alloc, x, binder)?)),
+        Parts::IsNull(x) => expect_memory_only(bound::is_null(
+            alloc,
+            bound_stats(alloc, x, binder)?,
+        )),
+        Parts::IsNotNull(x) => expect_memory_only(bound::is_not_null(
+            alloc,
+            bound_stats(alloc, x, binder)?,
+        )),
+        Parts::Not(x) => expect_memory_only(bound::not(alloc, bound_stats(alloc, x, binder)?)),
         Parts::Like(options, text, pattern) => {
             let text = bound_stats(alloc, text, binder)?;
             let pattern = bound_stats(alloc, pattern, binder)?;
-            built(bound::like_with(alloc, text, pattern, options))
+            expect_memory_only(bound::like_with(alloc, text, pattern, options))
         }
         Parts::Stat(aggregate, input) => replaced(alloc, input, aggregate, dtype, binder),
-        Parts::RowCount => built(bound::row_count(alloc)),
+        Parts::RowCount => expect_memory_only(bound::row_count(alloc)),
     }
 }
 

@@ -21,5 +21,7 @@ pub use scan::zones::scan_zones;
 pub use vortex_rewrite::expr::{all_non_null, all_null, min_max, null_count, stat, sum};
 pub use vortex_rewrite::rewrite::{falsify, falsify_counted, satisfy};
 pub use vortex_rewrite::{BuiltinRule, HookFault, Rules, StatsRewriteRule, StatsRewriteRuleRef};
-pub use vortex_zone_map::{Head, StatFn, StatOptions, TableRefused, Zone, ZoneMap, ZoneMapRefused};
+pub use vortex_zone_map::{
+    StatColumn, StatFn, StatOptions, TableRefused, Zone, ZoneMap, ZoneMapRefused,
+};
 pub use zones::{Zones, ZonesRefused};

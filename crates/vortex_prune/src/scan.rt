@@ -9,7 +9,7 @@ ghost use Rattle.vortex_prune.specs.Scanning.Selection.{answered, full, skipped_
 ghost use Rattle.vortex_rewrite.specs.Causes.{Causes, IsRefusal, either_causes};
 ghost use Rattle.vortex_prune.specs.Scanning.ScanRefusals.{asking_causes, binder_causes};
 ghost use Rattle.vortex_prune.specs.Scanning.ScanRefusals.{kept_binders};
-ghost use Rattle.vortex_rewrite.specs.Rewriting.ReadOnce.{is_apart};
+ghost use Rattle.vortex_rewrite.specs.Rewriting.ReadOnce.{has_disjoint_ands};
 ghost use Rattle.vortex_prune.specs.Scanning.Complete.{SkipsExactly};
 ghost use Rattle.vortex_rewrite.specs.Rewriting.Own.{own_rules};
 ghost use Rattle.vortex_rewrite.specs.Rewriting.Falsifiers.{falsifier as falsifier_of};
@@ -149,7 +149,7 @@ pub fn scan<B: StatBinder>(
     ensures complete { IfOk result (λ scan. rules.now.own.items ≡ []
         → AreFaithful B.is_faithful_over parts.now binders.now
         → AreByStatistics B.value parts.now binders.now
-        → IsTrue (is_apart predicate.now)
+        → IsTrue (has_disjoint_ands predicate.now)
         → SkipsExactly predicate.now parts.now scan.skipped.items) }
     // Which parts are skipped and whole, which rows are selected and how many tested, where the
     // binders are faithful; and what each binder has bound.

@@ -51,7 +51,7 @@ fn scope(alloc: Global) -> Result<Scope, StatsError> {
 fn part(
     alloc: Global,
     words: &[&str],
-    numbers: Result<Cells, AllocError>,
+    numbers: Result<ArrayData, AllocError>,
     first: Sets,
     second: Sets,
 ) -> Result<Part, StatsError> {
@@ -60,7 +60,7 @@ fn part(
     part_of_two(alloc, chunk, first, second)
 }
 
-fn three_and_null(alloc: Global) -> Result<Cells, AllocError> {
+fn three_and_null(alloc: Global) -> Result<ArrayData, AllocError> {
     let mut cells = one_value(alloc, Some(ScalarValue::from(3u8)))?;
     cells.push(None)?;
     Ok(cells)

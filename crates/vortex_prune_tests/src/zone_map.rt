@@ -3,13 +3,13 @@ use std::alloc::{AllocError, Global};
 use std::process::Abort;
 use std::slice;
 use std::test::Fail;
-use vortex_base::{AggregateFnRef, Cells, Column, ScalarValue, Scope};
+use vortex_base::{AggregateFnRef, ArrayData, Column, ScalarValue, Scope};
 use vortex_expr::BoundExpression;
 use vortex_prune::{Pruned, Rules, Verdict, falsify, prune_by, satisfy};
 use vortex_stats::{Stat, StatsError, StatsSet};
 use vortex_testing::nodes::*;
 use vortex_testing::parts::*;
-use vortex_zone_map::{Head, TableRefused, Zone, ZoneMap, ZoneMapRefused};
+use vortex_zone_map::{StatColumn, TableRefused, Zone, ZoneMap, ZoneMapRefused};
 
 type ManySets = Result<Vec<StatsSet>, StatsError>;
 
@@ -116,15 +116,15 @@ fn value_of(aggregate: AggregateFnRef, zone: usize) -> Option<ScalarValue> {
     }
 }
 
-fn column_under(alloc: Global, head: &Head) -> Result<Column, StatsError> {
-    let mut cells = Cells::new(alloc, head.dtype());
+fn column_under(alloc: Global, head: &StatColumn) -> Result<Column, StatsError> {
+    let mut cells = ArrayData::new(alloc, head.dtype());
     for zone in 0..3 {
         cells.push(value_of(head.aggregate(), zone))?;
     }
     told(Column::of_cells(head.dtype(), cells, 0))
 }
 
-fn columns_under(alloc: Global, heads: &[Head]) -> Result<Vec<Column>, StatsError> {
+fn columns_under(alloc: Global, heads: &[StatColumn]) -> Result<Vec<Column>, StatsError> {
     let mut columns = Vec::new(alloc);
     for head in heads {
         columns.push(column_under(alloc, head)?)?;

@@ -3,7 +3,7 @@ use Rattle.std.specs.Prelude.{◌≡◌, Some, List, IsTrue}
 use Rattle.vortex_expr.specs.Trees.Tree.{Tree, Place}
 use Rattle.vortex_rewrite.specs.Rewriting.Lawful.{IsSoundFalsifier, IsSoundSatisfier, OwnRule}
 use Rattle.vortex_rewrite.specs.Rewriting.Falsifiers.{falsifier, satisfier}
-use Rattle.vortex_rewrite.specs.Rewriting.ReadOnce.{is_apart, is_read_once}
+use Rattle.vortex_rewrite.specs.Rewriting.ReadOnce.{has_disjoint_ands, is_read_once}
 
 -- a true falsifier under facts means that no row satisfies the predicate, whichever lawful rules a user adds
 abbrev pub FalsifiersAreSound : Type 0
@@ -15,4 +15,4 @@ SatisfiersAreSound = (rules : List OwnRule) (p e : Tree Place) → satisfier rul
 
 -- where no column occurs twice, none stands on both sides of an AND
 abbrev pub ReadOnceIsApart : Type 0
-ReadOnceIsApart = (p : Tree Place) → IsTrue (is_read_once p) → IsTrue (is_apart p)
+ReadOnceIsApart = (p : Tree Place) → IsTrue (is_read_once p) → IsTrue (has_disjoint_ands p)

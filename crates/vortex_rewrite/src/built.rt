@@ -9,7 +9,7 @@ use vortex_stats::error::StatsError;
 
 /// Takes the product of a constructor over operands that fit; `Memory` is the one refusal that is
 /// left.
-pub fn built<T>(made: Result<T, BaseError>) -> Result<T, StatsError>
+pub fn expect_memory_only<T>(made: Result<T, BaseError>) -> Result<T, StatsError>
     requires { IfErr made (λ fault. fault ≡ Memory alloc_error) }
     ensures { OkOrMemory result (λ e. made ≡ Ok e) }
 {
@@ -24,5 +24,5 @@ pub fn built<T>(made: Result<T, BaseError>) -> Result<T, StatsError>
 pub fn cloned(e: &BoundExpression) -> Result<BoundExpression, StatsError>
     ensures { Makes e.now result }
 {
-    built(e.try_clone())
+    expect_memory_only(e.try_clone())
 }

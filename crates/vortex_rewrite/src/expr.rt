@@ -7,7 +7,7 @@ ghost use Rattle.vortex_rewrite.specs.Answers.{Makes};
 pub mod bound;
 pub mod proofs;
 
-use crate::built::built;
+use crate::built::expect_memory_only;
 use std::alloc::Global;
 use vortex_base::aggregate::AggregateFnRef;
 use vortex_expr::expression::Expression;
@@ -21,7 +21,7 @@ pub fn stat(
 ) -> Result<Expression, StatsError>
     ensures { Makes (tree.stat aggregate input) result }
 {
-    built(Expression::new_stat(alloc, input, aggregate))
+    expect_memory_only(Expression::new_stat(alloc, input, aggregate))
 }
 
 /// The placeholder for the least and the greatest value of an input.

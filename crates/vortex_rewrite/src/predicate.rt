@@ -6,7 +6,7 @@ ghost use Rattle.vortex_rewrite.specs.Answers.{Makes, OkOrMemory};
 ghost use Rattle.vortex_rewrite.specs.Rewriting.Predicates.{is_connective, is_predicate, is_truth_aggregate};
 ghost use Rattle.vortex_rewrite.specs.Rewriting.Falsifiers.{bool_literal};
 
-use crate::built::{built, cloned};
+use crate::built::{cloned, expect_memory_only};
 use crate::rewrite::nodes::{literal, stat};
 use std::alloc::Global;
 use std::marker::Model;
@@ -98,7 +98,7 @@ impl Predicate {
         requires { IsOk (type_of (tree.binary operator left right)) }
         ensures { Makes (tree.binary operator left right) result }
     {
-        let expression = built(bound::binary(alloc, operator, left, right))?;
+        let expression = expect_memory_only(bound::binary(alloc, operator, left, right))?;
         Ok(Predicate { expression })
     }
 
@@ -128,7 +128,7 @@ impl Predicate {
         requires { IsTrue (is_predicate x.now) }
         ensures { Makes (tree.not x.now) result }
     {
-        let expression = built(bound::not(alloc, cloned(x)?))?;
+        let expression = expect_memory_only(bound::not(alloc, cloned(x)?))?;
         Ok(Predicate { expression })
     }
 
@@ -146,7 +146,7 @@ impl Predicate {
         ensures { Makes (tree.is_null x.now) result }
     {
         let _typed = x.dtype();
-        let expression = built(bound::is_null(alloc, cloned(x)?))?;
+        let expression = expect_memory_only(bound::is_null(alloc, cloned(x)?))?;
         Ok(Predicate { expression })
     }
 
@@ -155,7 +155,7 @@ impl Predicate {
         ensures { Makes (tree.is_not_null x.now) result }
     {
         let _typed = x.dtype();
-        let expression = built(bound::is_not_null(alloc, cloned(x)?))?;
+        let expression = expect_memory_only(bound::is_not_null(alloc, cloned(x)?))?;
         Ok(Predicate { expression })
     }
 
@@ -170,7 +170,7 @@ impl Predicate {
         requires { IsOk (type_of (tree.between options x lower upper)) }
         ensures { Makes (tree.between options x lower upper) result }
     {
-        let expression = built(bound::between(alloc, x, lower, upper, options))?;
+        let expression = expect_memory_only(bound::between(alloc, x, lower, upper, options))?;
         Ok(Predicate { expression })
     }
 
@@ -184,7 +184,12 @@ impl Predicate {
         requires { IsOk (type_of (tree.like options text.now pattern.now)) }
         ensures { Makes (tree.like options text.now pattern.now) result }
     {
-        let expression = built(bound::like_with(alloc, cloned(text)?, cloned(pattern)?, options))?;
+        let expression = expect_memory_only(bound::like_with(
+            alloc,
+            cloned(text)?,
+            cloned(pattern)?,
+            options,
+        ))?;
         Ok(Predicate { expression })
     }
 

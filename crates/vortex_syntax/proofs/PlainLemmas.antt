@@ -17,8 +17,8 @@ use Rattle.vortex_base.specs.Data.States.{is_signed}
 use Rattle.vortex_base.specs.Data.Values.{greatest, least}
 use Rattle.vortex_base.specs.declared.dtype.DType.{DType}
 use Rattle.vortex_base.specs.Data.Types.{is_nullable}
-use Rattle.vortex_base.specs.Data.Cells.{short_value}
-use Rattle.vortex_base.specs.declared.cells.ShortCell.{ShortCell}
+use Rattle.vortex_base.specs.Data.ArrayData.{short_value}
+use Rattle.vortex_base.specs.declared.array_data.PrimitiveScalar.{PrimitiveScalar}
 use Rattle.vortex_base.specs.declared.dtype.DType.TheVariants as dtype
 use Rattle.vortex_base.specs.declared.pvalue.PValue.{PValue}
 use Rattle.vortex_base.specs.declared.scalar_value.ScalarValue.{ScalarValue}
@@ -310,7 +310,7 @@ not_null p n word v is = elim (cases_Bool (bytes_eq word (codes "null"))) [
 ]
 
 -- the number of a type with numbers below zero that a cell holds
-pub cell_begins : (p : PType) (text rest : List ℕ) (z : ℤ) (cell : ShortCell) → is_signed p ≡ true → BeginsSigned text z rest → Some (short_value cell) ≡ option_map (λ n. Some (value.Primitive n)) (in_type p z)
+pub cell_begins : (p : PType) (text rest : List ℕ) (z : ℤ) (cell : PrimitiveScalar) → is_signed p ≡ true → BeginsSigned text z rest → Some (short_value cell) ≡ option_map (λ n. Some (value.Primitive n)) (in_type p z)
     → (n : PValue) × BeginsNumber p text n rest × (short_value cell ≡ Some (value.Primitive n))
 cell_begins p text rest z cell signed (word, begins, whole) same = by (in_type p z) refl
   where
@@ -319,7 +319,7 @@ cell_begins p text rest z cell signed (word, begins, whole) same = by (in_type p
     by (Some n) is = let h = rw is at same in (n, (word, begins, ap (option_and_then (in_type p)) (ap (λ b. whole_of b word) signed ∙ whole) ∙ is), cc)
 
 -- the cell of a number behind a space
-pub value_cell : (p : PType) (n : Nullability) (text behind rest : List ℕ) (cell : ShortCell) → text ≡ 32 ∷ behind → (v : PValue) × BeginsNumber p behind v rest × (short_value cell ≡ Some (value.Primitive v)) → EndsWord rest
+pub value_cell : (p : PType) (n : Nullability) (text behind rest : List ℕ) (cell : PrimitiveScalar) → text ≡ 32 ∷ behind → (v : PValue) × BeginsNumber p behind v rest × (short_value cell ≡ Some (value.Primitive v)) → EndsWord rest
     → BeginsValue (dtype.Primitive p n) text (short_value cell) rest
 value_cell p n text behind rest cell is (v, (word, begins, number), made) ends =
     rw made (value_in_word (dtype.Primitive p n) text behind word rest (Some (value.Primitive v)) is begins ends (not_null p n word v number))

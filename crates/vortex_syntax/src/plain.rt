@@ -1,7 +1,7 @@
 //! Values in plain form, read straight from the bytes of a text, whose line isn't cut out before.
 //! What isn't in this form is left to the reader of words, by which each form here is specified.
 ghost use Rattle.std.specs.Prelude.{◌≡◌, ◌<◌, ◌≤◌, ◌+◌, ◌++◌, [], ℕ, List, codes, neg_ℤ, not, option_map, pos, position, IfOk, IfSome, None, IsTrue, Some, length, map, take, true};
-ghost use Rattle.vortex_base.specs.Data.Cells.{short_value};
+ghost use Rattle.vortex_base.specs.Data.ArrayData.{short_value};
 ghost use Rattle.vortex_base.specs.declared.dtype.DType.TheVariants as dtype;
 ghost use Rattle.vortex_base.specs.declared.pvalue.PValue.{PValue};
 ghost use Rattle.vortex_base.specs.declared.scalar_value.ScalarValue.TheVariants as value;
@@ -19,7 +19,7 @@ use crate::value::read_pairs;
 use std::alloc::AllocError;
 use std::simd::{u8x8, u8x16, u64x1};
 use std::str;
-use vortex_base::cells::ShortCell;
+use vortex_base::array_data::PrimitiveScalar;
 use vortex_base::dtype::DType;
 use vortex_base::pvalue::PValue;
 use vortex_base::types::PType;
@@ -293,37 +293,37 @@ fn quoted(text: &[u8]) -> Option<(&str, &[u8])>
 
 // The cell of a number of a type with numbers below zero, if the type has it.
 #[inline(always)]
-fn signed_cell(ptype: PType, number: i64) -> Option<ShortCell>
+fn signed_cell(ptype: PType, number: i64) -> Option<PrimitiveScalar>
     ensures { IfSome result (λ cell. Some (short_value cell)
         ≡ option_map (λ n. Some (value.Primitive n)) (in_type ptype number)) }
 {
     match ptype {
-        PType::I8 => Some(ShortCell::I8(i8::try_from(number).ok()?)),
-        PType::I16 => Some(ShortCell::I16(i16::try_from(number).ok()?)),
-        PType::I32 => Some(ShortCell::I32(i32::try_from(number).ok()?)),
-        PType::I64 => Some(ShortCell::I64(number)),
+        PType::I8 => Some(PrimitiveScalar::I8(i8::try_from(number).ok()?)),
+        PType::I16 => Some(PrimitiveScalar::I16(i16::try_from(number).ok()?)),
+        PType::I32 => Some(PrimitiveScalar::I32(i32::try_from(number).ok()?)),
+        PType::I64 => Some(PrimitiveScalar::I64(number)),
         _ => None,
     }
 }
 
 // The cell of a number of a type without numbers below zero, if the type has it.
 #[inline(always)]
-fn unsigned_cell(ptype: PType, number: u64) -> Option<ShortCell>
+fn unsigned_cell(ptype: PType, number: u64) -> Option<PrimitiveScalar>
     ensures { IfSome result (λ cell. Some (short_value cell)
         ≡ option_map (λ n. Some (value.Primitive n)) (in_type ptype (pos number))) }
 {
     match ptype {
-        PType::U8 => Some(ShortCell::U8(u8::try_from(number).ok()?)),
-        PType::U16 => Some(ShortCell::U16(u16::try_from(number).ok()?)),
-        PType::U32 => Some(ShortCell::U32(u32::try_from(number).ok()?)),
-        PType::U64 => Some(ShortCell::U64(number)),
+        PType::U8 => Some(PrimitiveScalar::U8(u8::try_from(number).ok()?)),
+        PType::U16 => Some(PrimitiveScalar::U16(u16::try_from(number).ok()?)),
+        PType::U32 => Some(PrimitiveScalar::U32(u32::try_from(number).ok()?)),
+        PType::U64 => Some(PrimitiveScalar::U64(number)),
         _ => None,
     }
 }
 
 // The cell of the number of a type at the front of a text, and what follows it.
 #[inline(always)]
-fn whole_cell(ptype: PType, text: &[u8]) -> Option<(ShortCell, &[u8])>
+fn whole_cell(ptype: PType, text: &[u8]) -> Option<(PrimitiveScalar, &[u8])>
     ensures whole { IfSome result (λ x. (n : PValue) × BeginsNumber ptype text.now n x.1.now
         × (short_value x.0 ≡ Some (value.Primitive n))) }
     ensures shorter { IfSome result (λ x. length x.1.now < length text.now) }
@@ -339,7 +339,7 @@ fn whole_cell(ptype: PType, text: &[u8]) -> Option<(ShortCell, &[u8])>
 
 // The cell of the number behind a space at the front of a text, and what follows it.
 #[inline(always)]
-fn number_cell(dtype: DType, text: &[u8]) -> Option<(ShortCell, &[u8])>
+fn number_cell(dtype: DType, text: &[u8]) -> Option<(PrimitiveScalar, &[u8])>
     ensures value { IfSome result (λ x.
         BeginsValue dtype text.now (short_value x.0) x.1.now) }
     ensures shorter { IfSome result (λ x. length x.1.now < length text.now) }
@@ -393,7 +393,7 @@ fn spaced_truth(text: &[u8]) -> Option<(bool, &[u8])>
 /// text, and what follows it: a number in up to 19 digits, then a space or a line feed. None where
 /// anything else stands there, and of a number where the text ends a few bytes on.
 #[inline(always)]
-pub fn plain_value(dtype: DType, text: &[u8]) -> Option<(ShortCell, &[u8])>
+pub fn plain_value(dtype: DType, text: &[u8]) -> Option<(PrimitiveScalar, &[u8])>
     ensures value { IfSome result (λ x.
         BeginsValue dtype text.now (short_value x.0) x.1.now) }
     ensures shorter { IfSome result (λ x. length x.1.now < length text.now) }
@@ -402,7 +402,7 @@ pub fn plain_value(dtype: DType, text: &[u8]) -> Option<(ShortCell, &[u8])>
         DType::Primitive(_, _) => number_cell(dtype, text),
         DType::Bool(_) => {
             let (truth, rest) = spaced_truth(text)?;
-            Some((ShortCell::Bool(truth), rest))
+            Some((PrimitiveScalar::Bool(truth), rest))
         }
         _ => None,
     }
@@ -430,7 +430,7 @@ pub fn plain_null(dtype: DType, text: &[u8]) -> Option<&[u8]>
 /// The cell of the truth, the number or the null of a type that stands behind one space at the
 /// front of a text, and what follows it.
 #[inline(always)]
-pub fn plain_cell(dtype: DType, text: &[u8]) -> Option<(ShortCell, &[u8])>
+pub fn plain_cell(dtype: DType, text: &[u8]) -> Option<(PrimitiveScalar, &[u8])>
     ensures value { IfSome result (λ x.
         BeginsValue dtype text.now (short_value x.0) x.1.now) }
     ensures shorter { IfSome result (λ x. length x.1.now < length text.now) }
@@ -438,7 +438,7 @@ pub fn plain_cell(dtype: DType, text: &[u8]) -> Option<(ShortCell, &[u8])>
     if let Some((cell, rest)) = plain_value(dtype, text) {
         return Some((cell, rest));
     }
-    Some((ShortCell::Null, plain_null(dtype, text)?))
+    Some((PrimitiveScalar::Null, plain_null(dtype, text)?))
 }
 
 /// The bytes of a type behind a space at the front of a text, an `x` and their digits, put into a

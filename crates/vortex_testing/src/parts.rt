@@ -21,10 +21,10 @@ use vortex_zone_map::{Zone, ZoneMap};
 
 pub type Sets = Result<StatsSet, StatsError>;
 
-pub type Cells = Vec<Option<ScalarValue>>;
+pub type ArrayData = Vec<Option<ScalarValue>>;
 
 /// The values of a column of these numbers.
-pub fn numbers(alloc: Global, rows: &[Option<i32>]) -> Result<Cells, AllocError> {
+pub fn numbers(alloc: Global, rows: &[Option<i32>]) -> Result<ArrayData, AllocError> {
     let mut values = Vec::new(alloc);
     for row in rows {
         values.push(row.map(number))?;
@@ -33,7 +33,7 @@ pub fn numbers(alloc: Global, rows: &[Option<i32>]) -> Result<Cells, AllocError>
 }
 
 /// The values of a column of these texts.
-pub fn texts(alloc: Global, rows: &[&str]) -> Result<Cells, AllocError> {
+pub fn texts(alloc: Global, rows: &[&str]) -> Result<ArrayData, AllocError> {
     let mut values = Vec::new(alloc);
     for row in rows {
         values.push(Some(text_value(alloc, *row)?))?;
@@ -42,7 +42,7 @@ pub fn texts(alloc: Global, rows: &[&str]) -> Result<Cells, AllocError> {
 }
 
 /// A column's one value.
-pub fn one_value(alloc: Global, value: Option<ScalarValue>) -> Result<Cells, AllocError> {
+pub fn one_value(alloc: Global, value: Option<ScalarValue>) -> Result<ArrayData, AllocError> {
     let mut values = Vec::new(alloc);
     values.push(value)?;
     Ok(values)
@@ -50,7 +50,7 @@ pub fn one_value(alloc: Global, value: Option<ScalarValue>) -> Result<Cells, All
 
 pub fn column(
     dtype: DType,
-    values: Result<Cells, AllocError>,
+    values: Result<ArrayData, AllocError>,
     size: u64,
 ) -> Result<Column, StatsError> {
     told(Column::try_new(dtype, values?, size))
@@ -382,7 +382,7 @@ fn empty_columns(alloc: Global, scope: &Scope) -> Result<Vec<Column>, StatsError
 }
 
 // The values of the row at a place.
-fn values_of(alloc: Global, chunk: &Chunk, place: usize) -> Result<Cells, AllocError>
+fn values_of(alloc: Global, chunk: &Chunk, place: usize) -> Result<ArrayData, AllocError>
     requires { place < row_count chunk.now.columns }
 {
     let row = chunk.row(place);

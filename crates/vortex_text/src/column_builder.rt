@@ -1,6 +1,6 @@
 //! A column that still takes values.
 ghost use Rattle.std.specs.Prelude.{◌≡◌, ◌<◌, ◌≤◌, ◌+◌, ◌-◌, ◌∷◌, [], All, IfOk, IfSome, MatchOption, OnOk, drop, length, map, option_map};
-ghost use Rattle.vortex_base.specs.Data.Cells.{bytes_value, cell_values, short_value, text_value};
+ghost use Rattle.vortex_base.specs.Data.ArrayData.{bytes_value, cell_values, short_value, text_value};
 ghost use Rattle.vortex_base.specs.Data.Columns.{IsColumn};
 ghost use Rattle.vortex_base.specs.declared.dtype.DType.TheVariants as dtype;
 ghost use Rattle.vortex_syntax.specs.Fails.{Changes, GivesAndChanges};
@@ -10,15 +10,15 @@ ghost use Rattle.vortex_text.specs.FirstLines.{AddsValue, BeginsOnly, LeavesByte
 
 use std::alloc::{AllocError, Global};
 use std::marker::Model;
-use vortex_base::blobs::Blobs;
-use vortex_base::cells::{Cells, ShortCell};
+use vortex_base::array_data::{ArrayData, PrimitiveScalar};
 use vortex_base::column::Column;
 use vortex_base::dtype::DType;
 use vortex_base::native::Native;
-use vortex_base::natives::Natives;
+use vortex_base::primitive_array::PrimitiveArray;
 use vortex_base::scalar_value::ScalarValue;
-use vortex_base::texts::Texts;
 use vortex_base::types::{Nullability, PType};
+use vortex_base::utf8_array::Utf8Array;
+use vortex_base::var_bin_array::VarBinArray;
 use vortex_syntax::expected::Expected;
 use vortex_syntax::line_error::LineError;
 use vortex_syntax::plain::{
@@ -59,11 +59,11 @@ macro_rules! number_type_of {
         $first:ident, $last:ident
     ) => {
         match ($cells, $ptype) {
-            (Cells::$first($natives), PType::$first) => {
+            (ArrayData::$first($natives), PType::$first) => {
                 let $own = PType::$first;
                 $each
             }
-            (Cells::$last($natives), PType::$last) => {
+            (ArrayData::$last($natives), PType::$last) => {
                 let $own = PType::$last;
                 $each
             }
@@ -76,13 +76,13 @@ macro_rules! number_type_of {
 #[derive(Debug, Drop)]
 pub struct ColumnBuilder {
     dtype: DType,
-    cells: Cells,
+    cells: ArrayData,
     // Where bytes are put together that go into the cells.
     scratch: Vec<u8>,
 }
 
 impl Model for ColumnBuilder {
-    ghost use Rattle.vortex_base.specs.Data.Cells.{cell_values};
+    ghost use Rattle.vortex_base.specs.Data.ArrayData.{cell_values};
     ghost use Rattle.vortex_base.specs.Data.Columns.{ColumnData};
 
     ghost Value = { ColumnData };
@@ -94,7 +94,7 @@ impl Model for ColumnBuilder {
 // values that are kept as that type.
 #[inline(always)]
 fn take_native<'a, T: Native>(
-    natives: &mut Natives<T>,
+    natives: &mut PrimitiveArray<T>,
     dtype: DType,
     text: &'a [u8],
 ) -> Option<&'a [u8]>
@@ -114,7 +114,7 @@ fn take_native<'a, T: Native>(
 // The truth, the number or the null that stands in the row that a text begins with, where there is
 // one column, and what follows the row's line. None where the row isn't in plain form.
 #[inline(always)]
-fn only_value(dtype: DType, text: &[u8]) -> Option<(ShortCell, &[u8])>
+fn only_value(dtype: DType, text: &[u8]) -> Option<(PrimitiveScalar, &[u8])>
     ensures value { IfSome result (λ x. BeginsOnly dtype text.now (short_value x.0) x.1.now) }
     ensures shorter { IfSome result (λ x. length x.1.now < length text.now) }
 {
@@ -129,7 +129,7 @@ fn only_value(dtype: DType, text: &[u8]) -> Option<(ShortCell, &[u8])>
 // kept as a type. How many rows those are comes back, and what follows them.
 #[inline(always)]
 fn take_native_rows<'a, T: Native>(
-    natives: &mut Natives<T>,
+    natives: &mut PrimitiveArray<T>,
     dtype: DType,
     text: &'a [u8],
 ) -> (usize, &'a [u8])
@@ -156,7 +156,7 @@ fn take_native_rows<'a, T: Native>(
 // Adds the numbers of the rows in plain form that a text begins with.
 #[inline(always)]
 fn take_number_rows<'a, T: Native>(
-    natives: &mut Natives<T>,
+    natives: &mut PrimitiveArray<T>,
     ptype: PType,
     nullability: Nullability,
     text: &'a [u8],
@@ -173,7 +173,7 @@ fn take_number_rows<'a, T: Native>(
 // Adds numbers so where the column has the form of its type of numbers; else no rows.
 #[inline(always)]
 fn take_own_number_rows<'a>(
-    cells: &mut Cells,
+    cells: &mut ArrayData,
     ptype: PType,
     nullability: Nullability,
     text: &'a [u8],
@@ -192,7 +192,7 @@ fn take_own_number_rows<'a>(
 // has the form of a type of numbers or truths. How many rows those are comes back, and what follows
 // them: no rows where the column has another form.
 #[inline(never)]
-fn take_own_rows<'a>(cells: &mut Cells, dtype: DType, text: &'a [u8]) -> (usize, &'a [u8])
+fn take_own_rows<'a>(cells: &mut ArrayData, dtype: DType, text: &'a [u8]) -> (usize, &'a [u8])
     ensures rows { TakesRows first_row result.0 (open_column dtype (cell_values cells.old) ∷ [])
         text.now (open_column dtype (cell_values cells.new) ∷ []) result.1.now }
     ensures bytes { result.0 + length result.1.now ≤ length text.now }
@@ -201,7 +201,7 @@ fn take_own_rows<'a>(cells: &mut Cells, dtype: DType, text: &'a [u8]) -> (usize,
         return take_own_number_rows(cells, ptype, nullability, text);
     }
     match (cells, dtype) {
-        (Cells::Bool(v), DType::Bool(n)) => take_native_rows(v, DType::Bool(n), text),
+        (ArrayData::Bool(v), DType::Bool(n)) => take_native_rows(v, DType::Bool(n), text),
         _ => (0, text),
     }
 }
@@ -209,7 +209,7 @@ fn take_own_rows<'a>(cells: &mut Cells, dtype: DType, text: &'a [u8]) -> (usize,
 // Adds the number in plain form that a text begins with, behind a space.
 #[inline(always)]
 fn take_number<'a, T: Native>(
-    natives: &mut Natives<T>,
+    natives: &mut PrimitiveArray<T>,
     ptype: PType,
     nullability: Nullability,
     text: &'a [u8],
@@ -226,7 +226,7 @@ fn take_number<'a, T: Native>(
 // Adds the text in plain form of a type that another begins with, behind a space. How many bytes
 // are left comes back.
 #[inline(never)]
-fn take_text(texts: &mut Texts, dtype: DType, text: &[u8]) -> Option<usize>
+fn take_text(texts: &mut Utf8Array, dtype: DType, text: &[u8]) -> Option<usize>
     ensures taken { MatchOption result (texts.new ≡ texts.old)
         (λ left. LeavesBytes left text.now (λ rest. AddsValue dtype (map text_value texts.old)
         text.now (map text_value texts.new) rest)) }
@@ -241,7 +241,12 @@ fn take_text(texts: &mut Texts, dtype: DType, text: &[u8]) -> Option<usize>
 // Adds the bytes in plain form of a type that a text begins with, behind a space. How many bytes of
 // the text are left comes back.
 #[inline(never)]
-fn take_bytes(blobs: &mut Blobs, scratch: &mut Vec<u8>, dtype: DType, text: &[u8]) -> Option<usize>
+fn take_bytes(
+    blobs: &mut VarBinArray,
+    scratch: &mut Vec<u8>,
+    dtype: DType,
+    text: &[u8],
+) -> Option<usize>
     ensures taken { MatchOption result (blobs.new ≡ blobs.old)
         (λ left. LeavesBytes left text.now (λ rest. AddsValue dtype (map bytes_value blobs.old)
         text.now (map bytes_value blobs.new) rest)) }
@@ -268,7 +273,7 @@ fn last_bytes(text: &[u8], left: usize) -> &[u8]
 // form of that type.
 #[inline(always)]
 fn take_own_number<'a>(
-    cells: &mut Cells,
+    cells: &mut ArrayData,
     ptype: PType,
     nullability: Nullability,
     text: &'a [u8],
@@ -288,7 +293,7 @@ fn take_own_number<'a>(
 // cells have another form or memory is refused.
 #[inline(always)]
 fn take_own<'a>(
-    cells: &mut Cells,
+    cells: &mut ArrayData,
     scratch: &mut Vec<u8>,
     dtype: DType,
     text: &'a [u8],
@@ -303,16 +308,16 @@ fn take_own<'a>(
     }
     if let DType::Bool(n) = dtype {
         return match cells {
-            Cells::Bool(truths) => take_native(truths, DType::Bool(n), text),
+            ArrayData::Bool(truths) => take_native(truths, DType::Bool(n), text),
             _ => None,
         };
     }
     match cells {
-        Cells::Texts(texts) => {
+        ArrayData::Utf8(texts) => {
             let left = take_text(texts, dtype, text)?;
             Some(last_bytes(text, left))
         }
-        Cells::Binary(blobs) => {
+        ArrayData::Binary(blobs) => {
             let left = take_bytes(blobs, scratch, dtype, text)?;
             Some(last_bytes(text, left))
         }
@@ -327,7 +332,7 @@ impl ColumnBuilder {
     {
         ColumnBuilder {
             dtype,
-            cells: Cells::new(alloc, dtype),
+            cells: ArrayData::new(alloc, dtype),
             scratch: Vec::new(alloc),
         }
     }
@@ -336,10 +341,10 @@ impl ColumnBuilder {
     pub fn len(&self) -> usize
         ensures { result ≡ length self.now.values }
     {
-        if let Cells::I64(natives) = &self.cells {
+        if let ArrayData::I64(natives) = &self.cells {
             return natives.len();
         }
-        if let Cells::I32(natives) = &self.cells {
+        if let ArrayData::I32(natives) = &self.cells {
             return natives.len();
         }
         self.other_len()
@@ -372,7 +377,7 @@ impl ColumnBuilder {
 
     // Adds a truth, a number or null.
     #[inline]
-    fn push_cell(&mut self, cell: ShortCell) -> Result<(), AllocError>
+    fn push_cell(&mut self, cell: PrimitiveScalar) -> Result<(), AllocError>
         ensures { OnOk result (self.new ≡ with_value (short_value cell) self.old) }
     {
         self.cells.push_cell(cell)

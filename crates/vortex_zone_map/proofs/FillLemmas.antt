@@ -4,13 +4,13 @@ use Rattle.std.proofs.lemmas.List.{map_push, take_more}
 use Rattle.std.proofs.lemmas.Option.{get_or_from_slice_get, slice_get-get_or}
 use Rattle.std.specs.Option.{is_some}
 use Rattle.std.specs.Prelude.{IsTrue, replicate, slice_get, slice_set}
-use Rattle.vortex_base.specs.Data.Cells.{cell_values}
+use Rattle.vortex_base.specs.Data.ArrayData.{cell_values}
 use Rattle.vortex_base.specs.Data.Columns.{ColumnData, all_fit}
-use Rattle.vortex_base.specs.declared.cells.Cells.{Cells}
+use Rattle.vortex_base.specs.declared.array_data.ArrayData.{ArrayData}
 use Rattle.vortex_base.specs.declared.dtype.DType.{DType}
 use Rattle.vortex_zone_map.proofs.ZoneMaps.ZoneNames.{column_is_made}
 use Rattle.vortex_zone_map.specs.Zone.{ZoneData}
-use Rattle.vortex_zone_map.specs.ZoneMaps.{Head, zone_column}
+use Rattle.vortex_zone_map.specs.ZoneMaps.{StatColumn, zone_column}
 use Rattle.vortex_zone_map.specs.Tables.{AreCells, IsTable, under}
 
 -- ---- a null that is put among nulls
@@ -26,7 +26,7 @@ null_among cells n i (Some x) are none = absurd cc
 
 -- ---- columns
 
-module _ (heads : List Head) (table : List Cells) (n : ℕ) (place : ℕ) (h : Head) (c : Cells) (at : place ≡ n) (within : n < length table) (cells : c ≡ get_or table n c) (head : h ≡ get_or heads place h) where
+module _ (heads : List StatColumn) (table : List ArrayData) (n : ℕ) (place : ℕ) (h : StatColumn) (c : ArrayData) (at : place ≡ n) (within : n < length table) (cells : c ≡ get_or table n c) (head : h ≡ get_or heads place h) where
   module _ (zones : List ZoneData) (are : AreCells heads zones table) where
     head_there : slice_get heads n ≡ Some h
     head_there =

@@ -149,5 +149,5 @@ one_more_zone zones from k z at =
     take_more (drop from zones) k z (omega (arith, long, within)) ∙ ap (λ x. take k (drop from zones) ++ x ∷ []) (get_or-drop from zones k z ∙ get_or_from_slice_get zones (from + k) z z at)
 
 -- what a stretch of what is told says is a stretch of what it says
-pub stretch_said : (longs : List ScalarValue) (ts : List StatEntry) (s : EntryRange) → said longs (take (s.to - s.from) (drop s.from ts)) ≡ stretch_of (said longs ts) s
-stretch_said longs ts s = sym (take-map (saying longs) (s.to - s.from) (drop s.from ts)) ∙ ap (take (s.to - s.from)) (sym (drop-map (saying longs) s.from ts))
+pub stretch_said : (var_len_values : List ScalarValue) (ts : List StatEntry) (s : EntryRange) → said var_len_values (take (s.to - s.from) (drop s.from ts)) ≡ stretch_of (said var_len_values ts) s
+stretch_said var_len_values ts s = sym (take-map (saying var_len_values) (s.to - s.from) (drop s.from ts)) ∙ ap (take (s.to - s.from)) (sym (drop-map (saying var_len_values) s.from ts))

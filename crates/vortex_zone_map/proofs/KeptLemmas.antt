@@ -2,8 +2,8 @@
 use Rattle.std.proofs.Common.{◌≡◌, ◌≤◌, ◌<◌, ◌++◌, ◌∙◌, ℕ, zero, suc, List, [], ◌∷◌, ap, ap₂, arith, length, refl, subst, sym}
 use Rattle.std.proofs.lemmas.List.{append-nil, append_assoc, length-append, map_push}
 use Rattle.std.specs.Prelude.{slice_get}
-use Rattle.vortex_base.specs.declared.cells.ShortCell.{ShortCell}
-use Rattle.vortex_base.specs.declared.cells.ShortCell.TheVariants as cell
+use Rattle.vortex_base.specs.declared.array_data.PrimitiveScalar.{PrimitiveScalar}
+use Rattle.vortex_base.specs.declared.array_data.PrimitiveScalar.TheVariants as cell
 use Rattle.vortex_base.specs.declared.scalar_value.ScalarValue.{ScalarValue}
 use Rattle.vortex_rewrite.proofs.Logic.{all_append}
 use Rattle.vortex_zone_map.specs.Kept.{AreKept, IsFormed, IsLonger, IsPlace, Saying, exact, formed, inexact, long_value, said, saying}
@@ -16,32 +16,32 @@ in_front [] ys k h = absurd (omega (arith, h))
 in_front (x ∷ xs) ys zero h = refl
 in_front (x ∷ xs) ys (suc k) h = in_front xs ys k (omega (arith, h))
 
-place_grows : (longs more : List ScalarValue) (c : ShortCell) → IsPlace (length longs) c → long_value (longs ++ more) c ≡ long_value longs c
-place_grows longs more (cell.U64 k) h = in_front longs more k h
-place_grows longs more _ h = refl
+place_grows : (var_len_values more : List ScalarValue) (c : PrimitiveScalar) → IsPlace (length var_len_values) c → long_value (var_len_values ++ more) c ≡ long_value var_len_values c
+place_grows var_len_values more (cell.U64 k) h = in_front var_len_values more k h
+place_grows var_len_values more _ h = refl
 
-formed_grows : (longs more : List ScalarValue) (f : ValueTag) (c : ShortCell) → IsFormed (length longs) f c → formed (longs ++ more) f c ≡ formed longs f c
-formed_grows longs more form.LongExact c h = ap exact (place_grows longs more c h)
-formed_grows longs more form.LongInexact c h = ap inexact (place_grows longs more c h)
-formed_grows longs more form.Absent c h = refl
-formed_grows longs more form.Exact c h = refl
-formed_grows longs more form.Inexact c h = refl
+formed_grows : (var_len_values more : List ScalarValue) (f : ValueTag) (c : PrimitiveScalar) → IsFormed (length var_len_values) f c → formed (var_len_values ++ more) f c ≡ formed var_len_values f c
+formed_grows var_len_values more form.LongExact c h = ap exact (place_grows var_len_values more c h)
+formed_grows var_len_values more form.LongInexact c h = ap inexact (place_grows var_len_values more c h)
+formed_grows var_len_values more form.Absent c h = refl
+formed_grows var_len_values more form.Exact c h = refl
+formed_grows var_len_values more form.Inexact c h = refl
 
-stays_place : (m n : ℕ) (c : ShortCell) → m ≤ n → IsPlace m c → IsPlace n c
+stays_place : (m n : ℕ) (c : PrimitiveScalar) → m ≤ n → IsPlace m c → IsPlace n c
 stays_place m n (cell.U64 k) le h = omega (arith, le, h)
 stays_place m n _ le h = tt
 
-stays_formed : (m n : ℕ) (f : ValueTag) (c : ShortCell) → m ≤ n → IsFormed m f c → IsFormed n f c
+stays_formed : (m n : ℕ) (f : ValueTag) (c : PrimitiveScalar) → m ≤ n → IsFormed m f c → IsFormed n f c
 stays_formed m n form.LongExact c le h = stays_place m n c le h
 stays_formed m n form.LongInexact c le h = stays_place m n c le h
 stays_formed m n form.Absent c le h = tt
 stays_formed m n form.Exact c le h = tt
 stays_formed m n form.Inexact c le h = tt
 
-said_grows : (longs more : List ScalarValue) (ts : List StatEntry) → AreKept (length longs) ts → said (longs ++ more) ts ≡ said longs ts
-said_grows longs more [] all = refl
-said_grows longs more (t ∷ ts) (is, all) =
-    ap₂ (λ v (l : List Saying). let s : Saying = record { column = t.column; stat = t.stat; value = v } in s ∷ l) (formed_grows longs more t.form t.cell is) (said_grows longs more ts all)
+said_grows : (var_len_values more : List ScalarValue) (ts : List StatEntry) → AreKept (length var_len_values) ts → said (var_len_values ++ more) ts ≡ said var_len_values ts
+said_grows var_len_values more [] all = refl
+said_grows var_len_values more (t ∷ ts) (is, all) =
+    ap₂ (λ v (l : List Saying). let s : Saying = record { column = t.column; stat = t.stat; value = v } in s ∷ l) (formed_grows var_len_values more t.form t.cell is) (said_grows var_len_values more ts all)
 
 stays_kept : (m n : ℕ) (ts : List StatEntry) → m ≤ n → AreKept m ts → AreKept n ts
 stays_kept m n [] le all = tt
@@ -49,8 +49,8 @@ stays_kept m n (t ∷ ts) le (is, all) = (stays_formed m n t.form t.cell le is, 
 
 -- ---- texts behind others
 
-pub longer_same : (longs : List ScalarValue) → IsLonger longs longs
-longer_same longs = record { more = []; same = sym (append-nil longs) }
+pub longer_same : (var_len_values : List ScalarValue) → IsLonger var_len_values var_len_values
+longer_same var_len_values = record { more = []; same = sym (append-nil var_len_values) }
 
 pub longer_on : (a b c : List ScalarValue) → IsLonger a b → IsLonger b c → IsLonger a c
 longer_on a b c first second = record {

@@ -6,7 +6,7 @@ use Rattle.std.proofs.lemmas.Option.{same_Some, slice_get-get_or, slice_get_with
 use Rattle.std.specs.Prelude.{replicate, slice_get, slice_set}
 use Rattle.vortex_base.specs.Data.Exact.{both_true}
 use Rattle.vortex_zone_map.specs.StatValues.{read_stat}
-use Rattle.vortex_zone_map.specs.ZoneMaps.{Head}
+use Rattle.vortex_zone_map.specs.ZoneMaps.{StatColumn}
 use Rattle.vortex_stats.proofs.Sets.SlotLemmas.{number_below}
 use Rattle.vortex_stats.specs.Stat.{stat_number}
 use Rattle.vortex_stats.specs.declared.stat.Stat.{Stat}
@@ -37,7 +37,7 @@ slot_within i n s less = omega (arith, less)
 pub slot_there : (i n : ℕ) (s : Stat) → i < n → slot i s < n * 9
 slot_there i n s less = let a = number_below s in omega (arith, less, a)
 
-module _ (h : Head) (t : Stat) (tells : read_stat h.aggregate ≡ Some t) where
+module _ (h : StatColumn) (t : Stat) (tells : read_stat h.aggregate ≡ Some t) where
   -- what a head reads has the place that the head's statistic has
   read_slot : (i : ℕ) (s : Stat) → reads h i s ≡ true → slot i s ≡ slot h.source t
   read_slot i s read =
@@ -56,13 +56,13 @@ and_false true = refl
 and_false false = refl
 
 -- a head reads nothing that isn't told of
-none_read : (h : Head) (i : ℕ) (s : Stat) → read_stat h.aggregate ≡ None → reads h i s ≡ false
+none_read : (h : StatColumn) (i : ℕ) (s : Stat) → read_stat h.aggregate ≡ None → reads h i s ≡ false
 none_read h i s none = ap (λ o. (h.source == i) && is_read s o) none ∙ and_false (h.source == i)
 
 -- ---- one more head
 
 -- it doesn't read the statistic, so the next reader stays
-passed : (heads : List Head) (i : ℕ) (s : Stat) (p n : ℕ) → IsNextReader heads i s (p + 1) n → ((h : Head) → slice_get heads p ≡ Some h → reads h i s ≡ false) → IsNextReader heads i s p n
+passed : (heads : List StatColumn) (i : ℕ) (s : Stat) (p n : ℕ) → IsNextReader heads i s (p + 1) n → ((h : StatColumn) → slice_get heads p ≡ Some h → reads h i s ≡ false) → IsNextReader heads i s p n
 passed heads i s p n is not =
     let behind = is.behind in
     record {
@@ -76,37 +76,37 @@ passed heads i s p n is not =
     }
 
 -- it reads it, so it is the next
-read_here : (heads : List Head) (i : ℕ) (s : Stat) (p : ℕ) (h : Head) → slice_get heads p ≡ Some h → reads h i s ≡ true → IsNextReader heads i s p p
+read_here : (heads : List StatColumn) (i : ℕ) (s : Stat) (p : ℕ) (h : StatColumn) → slice_get heads p ≡ Some h → reads h i s ≡ true → IsNextReader heads i s p p
 read_here heads i s p h at read =
     let within = slice_get_within heads p h at in
     record {
       behind = omega arith;
       within = omega (arith, within);
       unread = λ k g there le less. absurd (omega (arith, le, less));
-      read = λ g there. ap (λ (x : Head). reads x i s) (same_Some g h (sym there ∙ at)) ∙ read;
+      read = λ g there. ap (λ (x : StatColumn). reads x i s) (same_Some g h (sym there ∙ at)) ∙ read;
     }
 
 -- a head that reads nothing that has a place
-pub left_out : (heads : List Head) (p : ℕ) (h : Head) (l : Links) → slice_get heads p ≡ Some h → ((i : ℕ) (s : Stat) → slot i s < length l.firsts.items → reads h i s ≡ false) → AreLinked heads (p + 1) l → AreLinked heads p l
+pub left_out : (heads : List StatColumn) (p : ℕ) (h : StatColumn) (l : Links) → slice_get heads p ≡ Some h → ((i : ℕ) (s : Stat) → slot i s < length l.firsts.items → reads h i s ≡ false) → AreLinked heads (p + 1) l → AreLinked heads p l
 left_out heads p h l at unread is = record {
   long = is.long;
   first = λ i s n got.
-      passed heads i s p n (is.first i s n got) (λ g there. ap (λ (x : Head). reads x i s) (same_Some g h (sym there ∙ at)) ∙ unread i s (slice_get_within l.firsts.items (slot i s) n got));
+      passed heads i s p n (is.first i s n got) (λ g there. ap (λ (x : StatColumn). reads x i s) (same_Some g h (sym there ∙ at)) ∙ unread i s (slice_get_within l.firsts.items (slot i s) n got));
   next = λ k g i s n le there read few got. elim (eq-or-lt_of_le {n = p} {m = k} le) [
     | inl same ↦
         let own : g ≡ h = same_Some g h (sym there ∙ ap (slice_get heads) (sym same) ∙ at) in
-        let not : reads g i s ≡ false = ap (λ (x : Head). reads x i s) own ∙ unread i s few in
+        let not : reads g i s ≡ false = ap (λ (x : StatColumn). reads x i s) own ∙ unread i s few in
         absurd cc
     | inr more ↦ is.next k g i s n (omega (arith, more)) there read few got
   ];
 }
 
 -- a head that tells of no statistic
-pub none_left_out : (heads : List Head) (p : ℕ) (h : Head) (l : Links) → slice_get heads p ≡ Some h → read_stat h.aggregate ≡ None → AreLinked heads (p + 1) l → AreLinked heads p l
+pub none_left_out : (heads : List StatColumn) (p : ℕ) (h : StatColumn) (l : Links) → slice_get heads p ≡ Some h → read_stat h.aggregate ≡ None → AreLinked heads (p + 1) l → AreLinked heads p l
 none_left_out heads p h l at none = left_out heads p h l at (λ i s less. none_read h i s none)
 
 -- a head of a column that has no place
-pub column_left_out : (heads : List Head) (p columns : ℕ) (h : Head) (l : Links) → slice_get heads p ≡ Some h → columns ≤ h.source → length l.firsts.items ≡ columns * 9 → AreLinked heads (p + 1) l → AreLinked heads p l
+pub column_left_out : (heads : List StatColumn) (p columns : ℕ) (h : StatColumn) (l : Links) → slice_get heads p ≡ Some h → columns ≤ h.source → length l.firsts.items ≡ columns * 9 → AreLinked heads (p + 1) l → AreLinked heads p l
 column_left_out heads p columns h l at past wide =
     left_out heads p h l at (λ i s less.
     not_true (reads h i s) (λ read.
@@ -116,11 +116,11 @@ column_left_out heads p columns h l at past wide =
     omega (arith, column, within, past)))
 
 -- a head that is linked before the first one of its statistic
-pub linked_before : (heads : List Head) (p : ℕ) (h : Head) (t : Stat) (first : ℕ) (old new : Links) → slice_get heads p ≡ Some h → read_stat h.aggregate ≡ Some t → slice_get old.firsts.items (slot h.source t) ≡ Some first
+pub linked_before : (heads : List StatColumn) (p : ℕ) (h : StatColumn) (t : Stat) (first : ℕ) (old new : Links) → slice_get heads p ≡ Some h → read_stat h.aggregate ≡ Some t → slice_get old.firsts.items (slot h.source t) ≡ Some first
     → new.nexts.items ≡ slice_set old.nexts.items p first → new.firsts.items ≡ slice_set old.firsts.items (slot h.source t) p → AreLinked heads (p + 1) old → AreLinked heads p new
 linked_before heads p h t first old new at tells was nexts firsts is =
     let own = slot h.source t in
-    let at_own : (g : Head) → slice_get heads p ≡ Some g → g ≡ h = λ g there. same_Some g h (sym there ∙ at) in
+    let at_own : (g : StatColumn) → slice_get heads p ≡ Some g → g ≡ h = λ g there. same_Some g h (sym there ∙ at) in
     let wide : length new.firsts.items ≡ length old.firsts.items = ap length firsts ∙ length-set old.firsts.items own p in
     record {
       long = ap length nexts ∙ length-set old.nexts.items p first ∙ is.long;
@@ -130,12 +130,12 @@ linked_before heads p h t first old new at tells was nexts firsts is =
             subst (IsNextReader heads i s p) here (read_here heads i s p h at (slot_read h t tells i s same))
         | inr other ↦
             passed heads i s p n (is.first i s n (sym (set_elsewhere old.firsts.items own (slot i s) p (λ e. other (sym e))) ∙ ap (λ l. slice_get l (slot i s)) (sym firsts) ∙ got))
-            (λ g there. ap (λ (x : Head). reads x i s) (at_own g there) ∙ not_true (reads h i s) (λ read. other (read_slot h t tells i s read)))
+            (λ g there. ap (λ (x : StatColumn). reads x i s) (at_own g there) ∙ not_true (reads h i s) (λ read. other (read_slot h t tells i s read)))
       ];
       next = λ k g i s n le there read few got. elim (eq-or-lt_of_le {n = p} {m = k} le) [
         | inl same ↦
             let head : g ≡ h = at_own g (ap (slice_get heads) same ∙ there) in
-            let place : slot i s ≡ own = read_slot h t tells i s (ap (λ (x : Head). reads x i s) (sym head) ∙ read) in
+            let place : slot i s ≡ own = read_slot h t tells i s (ap (λ (x : StatColumn). reads x i s) (sym head) ∙ read) in
             let within : p < length old.nexts.items = (let long = is.long in let inside = slice_get_within heads p h at in omega (arith, long, inside)) in
             let set : slice_get (slice_set old.nexts.items p first) p ≡ Some first = set_there old.nexts.items p _ first (slice_get-get_or old.nexts.items p 0 within) in
             let behind : first ≡ n = same_Some first n (sym set ∙ ap (slice_get (slice_set old.nexts.items p first)) same ∙ ap (λ l. slice_get l k) (sym nexts) ∙ got) in
@@ -153,7 +153,7 @@ replicated zero x k y at = absurd cc
 replicated (suc m) x zero y at = same_Some x y at
 replicated (suc m) x (suc k) y at = replicated m x k y at
 
-pub none_linked : (heads : List Head) (m : ℕ) (l : Links) → l.firsts.items ≡ replicate m (length heads) → length l.nexts.items ≡ length heads → AreLinked heads (length heads) l
+pub none_linked : (heads : List StatColumn) (m : ℕ) (l : Links) → l.firsts.items ≡ replicate m (length heads) → length l.nexts.items ≡ length heads → AreLinked heads (length heads) l
 none_linked heads m l firsts long =
     let end = length heads in
     record {

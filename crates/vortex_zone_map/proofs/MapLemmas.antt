@@ -6,12 +6,12 @@ use Rattle.std.specs.List.{AllByRecursion}
 use Rattle.std.specs.Prelude.{option_map, replicate, slice_get}
 use Rattle.vortex_base.specs.declared.aggregate.AggregateFnRef.{AggregateFnRef}
 use Rattle.vortex_base.specs.declared.aggregate.AggregateFnRef.TheVariants as aggregate
-use Rattle.vortex_base.specs.declared.cells.Cells.{Cells}
+use Rattle.vortex_base.specs.declared.array_data.ArrayData.{ArrayData}
 use Rattle.vortex_base.specs.declared.scalar_value.ScalarValue.{ScalarValue}
 use Rattle.vortex_zone_map.proofs.ZoneLemmas.{rest_of}
 use Rattle.vortex_zone_map.specs.StatValues.{stat_value}
 use Rattle.vortex_zone_map.specs.Zone.{Entries, ZoneData}
-use Rattle.vortex_zone_map.specs.ZoneMaps.{Head, set_value}
+use Rattle.vortex_zone_map.specs.ZoneMaps.{StatColumn, set_value}
 use Rattle.vortex_zone_map.proofs.JoinLemmas.{one_more_zone}
 use Rattle.vortex_zone_map.proofs.LogLemmas.{all_at}
 use Rattle.vortex_zone_map.proofs.TableLemmas.{zone_with}
@@ -39,11 +39,11 @@ empty_tells f zero i rows = refl
 empty_tells f (suc n) zero rows = none_known f rows
 empty_tells f (suc n) (suc i) rows = empty_tells f n i rows
 
-blanks_tell : (h : Head) (n : ℕ) (zones : List ZoneData) → under h (map (blank_zone n) zones) ≡ replicate (length zones) None
+blanks_tell : (h : StatColumn) (n : ℕ) (zones : List ZoneData) → under h (map (blank_zone n) zones) ≡ replicate (length zones) None
 blanks_tell h n [] = refl
 blanks_tell h n (z ∷ zones) = ap₂ (λ (v : Option ScalarValue) vs. v ∷ vs) (empty_tells h.aggregate n h.source z.rows) (blanks_tell h n zones)
 
-pub blank_first : (heads : List Head) (n count : ℕ) (zones : List ZoneData) (cells : List Cells) → length zones ≡ count → AreBlank heads count cells → AreCells heads (map (blank_zone n) zones) cells
+pub blank_first : (heads : List StatColumn) (n count : ℕ) (zones : List ZoneData) (cells : List ArrayData) → length zones ≡ count → AreBlank heads count cells → AreCells heads (map (blank_zone n) zones) cells
 blank_first heads n count zones cells long is = record {
   long = is.long;
   told = λ k h c at got. is.blank k c got ∙ ap (λ m. replicate m None) (sym long) ∙ sym (blanks_tell h n zones);
@@ -63,7 +63,7 @@ zone_there zones from count k z less at =
     ∙ ap Some (get_or-take count (drop from zones) k z less ∙ get_or-drop from zones k z ∙ get_or_from_slice_get zones (from + k) z z at)
 
 -- the next zone is told
-pub next_told : (heads : List Head) (n : ℕ) (zones : List ZoneData) (k rows : ℕ) (full : List Entries) (old new : List Cells) → slice_get zones k ≡ Some (zone_with rows full)
+pub next_told : (heads : List StatColumn) (n : ℕ) (zones : List ZoneData) (k rows : ℕ) (full : List Entries) (old new : List ArrayData) → slice_get zones k ≡ Some (zone_with rows full)
     → ((before after : List ZoneData) (sets : List Entries) → length before ≡ k → sets ≡ empty_sets n → AreCells heads (before ++ zone_with rows sets ∷ after) old → AreCells heads (before ++ zone_with rows full ∷ after) new)
     → AreCells heads (take k zones ++ map (blank_zone n) (drop k zones)) old → AreCells heads (take (k + 1) zones ++ map (blank_zone n) (drop (k + 1) zones)) new
 next_told heads n zones k rows full old new at put is =
@@ -76,19 +76,19 @@ next_told heads n zones k rows full old new at put is =
     (put (take k zones) after (empty_sets n) first refl (subst (λ zs. AreCells heads zs old) (ap (λ l. take k zones ++ map (blank_zone n) l) (rest_of zones k z at)) is))
 
 -- all are
-pub all_told : (heads : List Head) (n : ℕ) (zones : List ZoneData) (k : ℕ) (cells : List Cells) → length zones ≤ k → AreCells heads (take k zones ++ map (blank_zone n) (drop k zones)) cells → AreCells heads zones cells
+pub all_told : (heads : List StatColumn) (n : ℕ) (zones : List ZoneData) (k : ℕ) (cells : List ArrayData) → length zones ≤ k → AreCells heads (take k zones ++ map (blank_zone n) (drop k zones)) cells → AreCells heads zones cells
 all_told heads n zones k cells past is =
     subst (λ zs. AreCells heads zs cells) (ap₂ (λ (a b : List ZoneData). a ++ map (blank_zone n) b) (take_all k zones past) (drop_all k zones past) ∙ append-nil zones) is
 
 -- a slice that is lent whole comes back whole
-pub lent_whole : (len : ℕ) (new old : List Cells) → length new ≡ len → length old ≡ len → take len (new ++ drop (length new) old) ≡ new
+pub lent_whole : (len : ℕ) (new old : List ArrayData) → length new ≡ len → length old ≡ len → take len (new ++ drop (length new) old) ≡ new
 lent_whole len new old long same =
     ap (take len) (ap (λ l. new ++ l) (drop_all (length new) old (omega (arith, long, same))) ∙ append-nil new) ∙ take_all len new (omega (arith, long))
 
 -- ---- a stretch of a log
 
-pub stretch_within : (longs : List ScalarValue) (told : List StatEntry) (runs : List EntryRange) (i : ℕ) (s : EntryRange) → AllByRecursion (IsWithin (length (said longs told))) runs → slice_get runs i ≡ Some s → IsWithin (length told) s
-stretch_within longs told runs i s all at = subst (λ n. IsWithin n s) (length-map told (saying longs)) (all_at (IsWithin (length (said longs told))) runs i s all at)
+pub stretch_within : (var_len_values : List ScalarValue) (told : List StatEntry) (runs : List EntryRange) (i : ℕ) (s : EntryRange) → AllByRecursion (IsWithin (length (said var_len_values told))) runs → slice_get runs i ≡ Some s → IsWithin (length told) s
+stretch_within var_len_values told runs i s all at = subst (λ n. IsWithin n s) (length-map told (saying var_len_values)) (all_at (IsWithin (length (said var_len_values told))) runs i s all at)
 
 -- ---- row counts
 

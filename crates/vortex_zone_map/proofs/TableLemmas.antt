@@ -4,14 +4,14 @@ use Rattle.std.proofs.Math.Nat.{eq-or-lt_of_le}
 use Rattle.std.proofs.lemmas.List.{length-map, length-set, map-append, map_push, set_at, take_more}
 use Rattle.std.proofs.lemmas.Option.{same_Some, slice_get_past, slice_get_within}
 use Rattle.std.specs.Prelude.{slice_get, slice_set}
-use Rattle.vortex_base.specs.Data.Cells.{cell_values}
+use Rattle.vortex_base.specs.Data.ArrayData.{cell_values}
 use Rattle.vortex_base.specs.Data.Exact.{both_true}
-use Rattle.vortex_base.specs.declared.cells.Cells.{Cells}
+use Rattle.vortex_base.specs.declared.array_data.ArrayData.{ArrayData}
 use Rattle.vortex_base.specs.declared.scalar_value.ScalarValue.{ScalarValue}
 use Rattle.vortex_zone_map.proofs.ReadStats.{stat_value-reads, stat_value-reads_none}
 use Rattle.vortex_zone_map.specs.StatValues.{read_stat, told_value}
 use Rattle.vortex_zone_map.specs.Zone.{Entries, ZoneData}
-use Rattle.vortex_zone_map.specs.ZoneMaps.{Head, set_value, zone_value}
+use Rattle.vortex_zone_map.specs.ZoneMaps.{StatColumn, set_value, zone_value}
 use Rattle.vortex_stats.proofs.Sets.Lookups.{entry_value-with_other, entry_value-with_own}
 use Rattle.vortex_stats.specs.Sets.Entries.{entry_value, with_entry}
 use Rattle.vortex_stats.specs.Stat.{same_from_stat_eq}
@@ -52,7 +52,7 @@ slice_get_past_not (x ∷ xs) (suc i) h at = slice_get_past_not xs i (omega (ari
 
 -- ---- what a head tells of a zone with one more statistic
 
-module _ (h : Head) (t : Saying) (z : ZoneData) where
+module _ (h : StatColumn) (t : Saying) (z : ZoneData) where
   abbrev tells : ZoneData → Option ScalarValue
   tells zone = zone_value h.aggregate h.source zone
 
@@ -113,19 +113,19 @@ module _ (h : Head) (t : Saying) (z : ZoneData) where
 
 -- ---- cells of which those of the first heads tell of other zones
 
-pub record AreMixed (heads : List Head) (n : ℕ) (done left : List ZoneData) (cells : List Cells) : Type 0 where
+pub record AreMixed (heads : List StatColumn) (n : ℕ) (done left : List ZoneData) (cells : List ArrayData) : Type 0 where
   pub long : length cells ≡ length heads
-  pub before : (k : ℕ) (h : Head) (c : Cells) → slice_get heads k ≡ Some h → slice_get cells k ≡ Some c → k < n → cell_values c ≡ under h done
-  pub behind : (k : ℕ) (h : Head) (c : Cells) → slice_get heads k ≡ Some h → slice_get cells k ≡ Some c → n ≤ k → cell_values c ≡ under h left
+  pub before : (k : ℕ) (h : StatColumn) (c : ArrayData) → slice_get heads k ≡ Some h → slice_get cells k ≡ Some c → k < n → cell_values c ≡ under h done
+  pub behind : (k : ℕ) (h : StatColumn) (c : ArrayData) → slice_get heads k ≡ Some h → slice_get cells k ≡ Some c → n ≤ k → cell_values c ≡ under h left
 
 -- what is told in a zone between others
-pub told_between : (h : Head) (before after : List ZoneData) (y z : ZoneData) → zone_value h.aggregate h.source y ≡ zone_value h.aggregate h.source z → under h (before ++ y ∷ after) ≡ under h (before ++ z ∷ after)
+pub told_between : (h : StatColumn) (before after : List ZoneData) (y z : ZoneData) → zone_value h.aggregate h.source y ≡ zone_value h.aggregate h.source z → under h (before ++ y ∷ after) ≡ under h (before ++ z ∷ after)
 told_between h before after y z same =
     let f = zone_value h.aggregate h.source in
     map-append f before (y ∷ after) ∙ ap (λ v. map f before ++ v ∷ map f after) same ∙ sym (map-append f before (z ∷ after))
 
 -- the cell of a zone between others
-pub set_between : (h : Head) (before after : List ZoneData) (y z : ZoneData) (i : ℕ) (v : Option ScalarValue) → length before ≡ i → v ≡ zone_value h.aggregate h.source y → slice_set (under h (before ++ z ∷ after)) i v ≡ under h (before ++ y ∷ after)
+pub set_between : (h : StatColumn) (before after : List ZoneData) (y z : ZoneData) (i : ℕ) (v : Option ScalarValue) → length before ≡ i → v ≡ zone_value h.aggregate h.source y → slice_set (under h (before ++ z ∷ after)) i v ≡ under h (before ++ y ∷ after)
 set_between h before after y z i v at is =
     let f = zone_value h.aggregate h.source in
     ap (λ l. slice_set l i v) (map-append f before (z ∷ after))
@@ -136,14 +136,14 @@ set_between h before after y z i v at is =
 pub nothing_with : (t : Saying) (z : ZoneData) → length z.stats ≤ t.column → with_saying t z ≡ z
 nothing_with t z past = ap (λ o. let with : ZoneData = record { rows = z.rows; stats = stat_set t.column t.stat t.value z.stats o } in with) (slice_get_past z.stats t.column past)
 
-module _ (heads : List Head) (t : Saying) (before after : List ZoneData) (z : ZoneData) where
+module _ (heads : List StatColumn) (t : Saying) (before after : List ZoneData) (z : ZoneData) where
   abbrev new : List ZoneData
   new = before ++ with_saying t z ∷ after
 
   abbrev old : List ZoneData
   old = before ++ z ∷ after
 
-  pub none_mixed : (cells : List Cells) → AreCells heads old cells → AreMixed heads 0 new old cells
+  pub none_mixed : (cells : List ArrayData) → AreCells heads old cells → AreMixed heads 0 new old cells
   none_mixed cells is = record {
     long = is.long;
     before = λ k h c at got less. absurd (omega (arith, less));
@@ -151,7 +151,7 @@ module _ (heads : List Head) (t : Saying) (before after : List ZoneData) (z : Zo
   }
 
   -- the heads before the next reader read nothing of it
-  pub mixed_on : (m n : ℕ) (cells : List Cells) → IsNextReader heads t.column t.stat m n → AreMixed heads m new old cells → AreMixed heads n new old cells
+  pub mixed_on : (m n : ℕ) (cells : List ArrayData) → IsNextReader heads t.column t.stat m n → AreMixed heads m new old cells → AreMixed heads n new old cells
   mixed_on m n cells reader is = record {
     long = is.long;
     before = λ k h c at got less. elim (lt_or_le k m) [
@@ -162,27 +162,27 @@ module _ (heads : List Head) (t : Saying) (before after : List ZoneData) (z : Zo
   }
 
   -- there is no such column
-  pub none_reads : (n : ℕ) (cells : List Cells) → length z.stats ≤ t.column → AreCells heads old cells → AreMixed heads n new old cells
+  pub none_reads : (n : ℕ) (cells : List ArrayData) → length z.stats ≤ t.column → AreCells heads old cells → AreMixed heads n new old cells
   none_reads n cells past is = record {
     long = is.long;
     before = λ k h c at got less. is.told k h c at got ∙ sym (told_between h before after (with_saying t z) z (ap (zone_value h.aggregate h.source) (nothing_with t z past)));
     behind = λ k h c at got le. is.told k h c at got;
   }
 
-  pub all_mixed : (n : ℕ) (cells : List Cells) → length heads ≤ n → AreMixed heads n new old cells → AreCells heads new cells
+  pub all_mixed : (n : ℕ) (cells : List ArrayData) → length heads ≤ n → AreMixed heads n new old cells → AreCells heads new cells
   all_mixed n cells past is = record {
     long = is.long;
     told = λ k h c at got. is.before k h c at got (let within = slice_get_within heads k h at in omega (arith, within, past));
   }
 
-  module _ (n : ℕ) (g : Head) (here : slice_get heads n ≡ Some g) (read : reads g t.column t.stat ≡ true) (place : t.column < length z.stats) where
+  module _ (n : ℕ) (g : StatColumn) (here : slice_get heads n ≡ Some g) (read : reads g t.column t.stat ≡ true) (place : t.column < length z.stats) where
     -- what is put under it
-    put_value : (one two : Cells) (i : ℕ) → cell_values two ≡ slice_set (cell_values one) i (told_value g.aggregate t.value z.rows) → cell_values one ≡ under g old → length before ≡ i → cell_values two ≡ under g new
+    put_value : (one two : ArrayData) (i : ℕ) → cell_values two ≡ slice_set (cell_values one) i (told_value g.aggregate t.value z.rows) → cell_values one ≡ under g old → length before ≡ i → cell_values two ≡ under g new
     put_value one two i put was at =
         put ∙ ap (λ l. slice_set l i (told_value g.aggregate t.value z.rows)) was
         ∙ set_between g before after (with_saying t z) z i (told_value g.aggregate t.value z.rows) at (sym (is_told g t z read place))
 
-    pub mixed_next : (cells : List Cells) (one two : Cells) (i : ℕ) → cell_values two ≡ slice_set (cell_values one) i (told_value g.aggregate t.value z.rows) → length before ≡ i → slice_get cells n ≡ Some one → AreMixed heads n new old cells → AreMixed heads (n + 1) new old (slice_set cells n two)
+    pub mixed_next : (cells : List ArrayData) (one two : ArrayData) (i : ℕ) → cell_values two ≡ slice_set (cell_values one) i (told_value g.aggregate t.value z.rows) → length before ≡ i → slice_get cells n ≡ Some one → AreMixed heads n new old cells → AreMixed heads (n + 1) new old (slice_set cells n two)
     mixed_next cells one two i put at got is = record {
       long = length-set cells n two ∙ is.long;
       before = λ k h c there found less. elim (eq-or-lt_of_le {n = k} {m = n} (omega (arith, less))) [
@@ -196,9 +196,9 @@ module _ (heads : List Head) (t : Saying) (before after : List ZoneData) (z : Zo
     }
 
 -- one more of what is told of a zone
-pub next_sets : (longs : List ScalarValue) (ts : List StatEntry) (n : ℕ) (d : StatEntry) (sets : List Entries) (rows : ℕ) → n < length ts
-    → with_saying (saying longs (get_or ts n d)) (zone_with rows (sets_with sets (said longs (take n ts)))) ≡ zone_with rows (sets_with sets (said longs (take (n + 1) ts)))
-next_sets longs ts n d sets rows within =
-    let first = said longs (take n ts) in
-    let t = saying longs (get_or ts n d) in
-    ap (zone_with rows) (sym (sets_with-append sets first (t ∷ [])) ∙ ap (sets_with sets) (sym (map_push (saying longs) (take n ts) (get_or ts n d)) ∙ ap (said longs) (sym (take_more ts n d within))))
+pub next_sets : (var_len_values : List ScalarValue) (ts : List StatEntry) (n : ℕ) (d : StatEntry) (sets : List Entries) (rows : ℕ) → n < length ts
+    → with_saying (saying var_len_values (get_or ts n d)) (zone_with rows (sets_with sets (said var_len_values (take n ts)))) ≡ zone_with rows (sets_with sets (said var_len_values (take (n + 1) ts)))
+next_sets var_len_values ts n d sets rows within =
+    let first = said var_len_values (take n ts) in
+    let t = saying var_len_values (get_or ts n d) in
+    ap (zone_with rows) (sym (sets_with-append sets first (t ∷ [])) ∙ ap (sets_with sets) (sym (map_push (saying var_len_values) (take n ts) (get_or ts n d)) ∙ ap (said var_len_values) (sym (take_more ts n d within))))

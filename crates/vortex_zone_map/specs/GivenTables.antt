@@ -8,14 +8,14 @@ use Rattle.vortex_rewrite.specs.Answers.{IsMemory}
 use Rattle.vortex_stats.specs.declared.error.StatsError.{StatsError}
 use Rattle.vortex_stats.specs.declared.error.StatsError.TheVariants.{Mismatch}
 use Rattle.vortex_zone_map.specs.Zone.{AreZonesOf, ZoneData}
-use Rattle.vortex_zone_map.specs.ZoneMaps.{Head, MapData, heads, named_head, zone_columns}
+use Rattle.vortex_zone_map.specs.ZoneMaps.{StatColumn, MapData, heads, named_head, zone_columns}
 
 -- the column may stand under the head in a table of n zones: it has the head's type, a value for each zone, and declares no size
-abbrev pub stands_under : ℕ → Head → ColumnData → Bool
+abbrev pub stands_under : ℕ → StatColumn → ColumnData → Bool
 stands_under n h c = dtype_eq h.dtype c.dtype && (length c.values == n && c.size == 0)
 
 -- there is one for each head, in their order
-abbrev pub all_stand : ℕ → List Head → List ColumnData → Bool
+abbrev pub all_stand : ℕ → List StatColumn → List ColumnData → Bool
 all_stand n hs cs = pointwise (stands_under n) hs cs
 
 -- the columns may be those of the table of n zones of a scope

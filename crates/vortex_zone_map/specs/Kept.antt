@@ -1,9 +1,9 @@
 -- A log as it is kept: what is told in order, and which stretch of it tells of each zone.
 use Rattle.std.specs.Prelude.{◌≡◌, ◌<◌, ◌≤◌, ◌-◌, ◌++◌, ℕ, List, [], ◌∷◌, Option, None, Some, drop, length, map, slice_get, take, ⊤}
 use Rattle.std.specs.List.{AllByRecursion}
-use Rattle.vortex_base.specs.Data.Cells.{short_value}
-use Rattle.vortex_base.specs.declared.cells.ShortCell.{ShortCell}
-use Rattle.vortex_base.specs.declared.cells.ShortCell.TheVariants as cell
+use Rattle.vortex_base.specs.Data.ArrayData.{short_value}
+use Rattle.vortex_base.specs.declared.array_data.PrimitiveScalar.{PrimitiveScalar}
+use Rattle.vortex_base.specs.declared.array_data.PrimitiveScalar.TheVariants as cell
 use Rattle.vortex_base.specs.declared.scalar_value.ScalarValue.{ScalarValue}
 use Rattle.vortex_zone_map.specs.Zone.{Entries, ZoneData}
 use Rattle.vortex_stats.specs.declared.precision.Precision.{Precision}
@@ -65,27 +65,27 @@ inexact None = precise.Absent
 inexact (Some v) = precise.Inexact v
 
 -- the text or bytes at the place that a cell tells
-abbrev pub long_value : List ScalarValue → ShortCell → Option ScalarValue
-long_value longs (cell.U64 n) = slice_get longs n
-long_value longs c = None
+abbrev pub long_value : List ScalarValue → PrimitiveScalar → Option ScalarValue
+long_value var_len_values (cell.U64 n) = slice_get var_len_values n
+long_value var_len_values c = None
 
 -- the value that is kept in a form
-abbrev pub formed : List ScalarValue → ValueTag → ShortCell → Precision ScalarValue
-formed longs form.Absent c = precise.Absent
-formed longs form.Exact c = exact (short_value c)
-formed longs form.Inexact c = inexact (short_value c)
-formed longs form.LongExact c = exact (long_value longs c)
-formed longs form.LongInexact c = inexact (long_value longs c)
+abbrev pub formed : List ScalarValue → ValueTag → PrimitiveScalar → Precision ScalarValue
+formed var_len_values form.Absent c = precise.Absent
+formed var_len_values form.Exact c = exact (short_value c)
+formed var_len_values form.Inexact c = inexact (short_value c)
+formed var_len_values form.LongExact c = exact (long_value var_len_values c)
+formed var_len_values form.LongInexact c = inexact (long_value var_len_values c)
 
 abbrev pub kept_value : List ScalarValue → StoredValue → Precision ScalarValue
-kept_value longs k = formed longs k.form k.cell
+kept_value var_len_values k = formed var_len_values k.form k.cell
 
 -- the place that a cell tells is one of so many
-abbrev pub IsPlace : ℕ → ShortCell → Type 0
+abbrev pub IsPlace : ℕ → PrimitiveScalar → Type 0
 IsPlace n (cell.U64 k) = k < n
 IsPlace n c = ⊤
 
-abbrev pub IsFormed : ℕ → ValueTag → ShortCell → Type 0
+abbrev pub IsFormed : ℕ → ValueTag → PrimitiveScalar → Type 0
 IsFormed n form.LongExact c = IsPlace n c
 IsFormed n form.LongInexact c = IsPlace n c
 IsFormed n f c = ⊤
@@ -102,20 +102,20 @@ pub record IsLonger (old new : List ScalarValue) : Type 0 where
 -- ---- what is told, and with the texts and bytes beside it what it says
 
 abbrev pub saying : List ScalarValue → StatEntry → Saying
-saying longs t = record { column = t.column; stat = t.stat; value = formed longs t.form t.cell }
+saying var_len_values t = record { column = t.column; stat = t.stat; value = formed var_len_values t.form t.cell }
 
 abbrev pub said : List ScalarValue → List StatEntry → List Saying
-said longs ts = map (saying longs) ts
+said var_len_values ts = map (saying var_len_values) ts
 
 abbrev pub AreKept : ℕ → List StatEntry → Type 0
 AreKept n ts = AllByRecursion (λ t. IsFormed n t.form t.cell) ts
 
 -- what every log keeps: each stretch is one of what is told, and each text is there
-pub record IsLog (longs : List ScalarValue) (told current : List StatEntry) (runs : List EntryRange) : Type 0 where
-  pub stretches : AllByRecursion (IsWithin (length (said longs told))) runs
-  pub told_kept : AreKept (length longs) told
-  pub current_kept : AreKept (length longs) current
+pub record IsLog (var_len_values : List ScalarValue) (told current : List StatEntry) (runs : List EntryRange) : Type 0 where
+  pub stretches : AllByRecursion (IsWithin (length (said var_len_values told))) runs
+  pub told_kept : AreKept (length var_len_values) told
+  pub current_kept : AreKept (length var_len_values) current
 
 -- the log that is kept so
 abbrev pub log_of : ℕ → List ScalarValue → (told current : List StatEntry) → List EntryRange → LogData
-log_of n longs told current runs = record { zones = zones_of n (said longs told) runs; current = sets_of n (said longs current) }
+log_of n var_len_values told current runs = record { zones = zones_of n (said var_len_values told) runs; current = sets_of n (said var_len_values current) }

@@ -55,28 +55,28 @@ abbrev pub zone_type : AggregateFnRef → DType → DType
 zone_type f t = type_or_null (stat_type f t)
 
 -- a column of the table without its values: the place of the column that it tells of, and the aggregate
-pub record Head : Type 0 where
+pub record StatColumn : Type 0 where
   pub source : ℕ
   pub aggregate : AggregateFnRef
   pub name : List ℕ
   pub dtype : DType
 
-abbrev pub head : ℕ → Named → AggregateFnRef → Head
+abbrev pub head : ℕ → Named → AggregateFnRef → StatColumn
 head i c f = record { source = i; aggregate = f; name = c.0 ++ suffix f; dtype = zone_type f c.1 }
 
-abbrev pub heads_from : ℕ → List Named → List Head
+abbrev pub heads_from : ℕ → List Named → List StatColumn
 heads_from i [] = []
 heads_from i (c ∷ cs) = map (head i c) (supporting c.1) ++ heads_from (i + 1) cs
 
 -- for each column of the scope in order, those for the aggregates that support it
-abbrev pub heads : List Named → List Head
+abbrev pub heads : List Named → List StatColumn
 heads cs = heads_from 0 cs
 
-abbrev pub named_head : Head → Named
+abbrev pub named_head : StatColumn → Named
 named_head h = (h.name, h.dtype)
 
 -- the head, if the aggregate supports the type
-abbrev pub head_if : Bool → Head → List Head
+abbrev pub head_if : Bool → StatColumn → List StatColumn
 head_if b h = if b then h ∷ [] else []
 
 -- where the columns of the table that tell of each column of the scope start
@@ -85,11 +85,11 @@ starts_from n [] = []
 starts_from n (c ∷ cs) = n ∷ starts_from (n + length (supporting c.1)) cs
 
 -- the head tells of a column of the scope that its aggregate supports
-abbrev pub TellsOf : List Named → Head → Type 0
+abbrev pub TellsOf : List Named → StatColumn → Type 0
 TellsOf scope h = (c : Named) × (slice_get scope h.source ≡ Some c) × (stat_type h.aggregate c.1 ≡ Ok h.dtype)
 
 -- each zone has a set where the head tells of, and that fits a type that its aggregate supports
-abbrev pub EachTells : List ZoneData → Head → Type 0
+abbrev pub EachTells : List ZoneData → StatColumn → Type 0
 EachTells zones h =
     (i : ℕ) (zone : ZoneData) → slice_get zones i ≡ Some zone →
     (t : DType) × (es : Entries) × (slice_get zone.stats h.source ≡ Some es) × IsTrue (entries_fit es t) × (stat_type h.aggregate t ≡ Ok h.dtype)
@@ -107,10 +107,10 @@ abbrev pub value_if : Bool → Option ScalarValue → List (Option ScalarValue)
 value_if b v = if b then v ∷ [] else []
 
 -- what a zone tells in a column of the table
-abbrev pub told_of : ZoneData → Head → Option ScalarValue
+abbrev pub told_of : ZoneData → StatColumn → Option ScalarValue
 told_of zone h = zone_value h.aggregate h.source zone
 
-abbrev pub zone_column : List ZoneData → Head → ColumnData
+abbrev pub zone_column : List ZoneData → StatColumn → ColumnData
 zone_column zones h = record { dtype = h.dtype; values = map (zone_value h.aggregate h.source) zones; size = 0 }
 
 abbrev pub zone_columns : List Named → List ZoneData → List ColumnData

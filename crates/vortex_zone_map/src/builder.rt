@@ -16,10 +16,10 @@ use crate::known::Known;
 use crate::links::links_of;
 use crate::readers::Readers;
 use crate::stat_entry::{StatEntry, move_behind, next_stretch, sets_of, tell, told_in};
-use crate::zone_map::{Head, ZoneMap};
+use crate::zone_map::{StatColumn, ZoneMap};
 use std::alloc::{AllocError, Global};
 use std::marker::Model;
-use vortex_base::cells::Cells;
+use vortex_base::array_data::ArrayData;
 use vortex_base::dtype::DType;
 use vortex_base::scalar_value::ScalarValue;
 use vortex_base::scope::Scope;
@@ -32,7 +32,7 @@ pub struct ZoneMapBuilder {
     // So each column is told in 32 bits.
     columns: u32,
     // The texts and bytes that are told.
-    longs: Vec<ScalarValue>,
+    var_len_values: Vec<ScalarValue>,
     // What is told of the zones that have ended.
     told: Vec<StatEntry>,
     // What is told of the one that hasn't.
@@ -49,10 +49,10 @@ impl Model for ZoneMapBuilder {
     ghost Value = { LogData };
 
     ghost view = { λ l.
-        log_of l.columns l.longs.items l.told.items l.current.items (all_of l.stretches) };
+        log_of l.columns l.var_len_values.items l.told.items l.current.items (all_of l.stretches) };
 
     ghost invariant = { λ l.
-        IsLog l.longs.items l.told.items l.current.items (all_of l.stretches)
+        IsLog l.var_len_values.items l.told.items l.current.items (all_of l.stretches)
         × IsCounted l.stretches };
 }
 
@@ -64,7 +64,7 @@ impl ZoneMapBuilder {
     {
         ZoneMapBuilder {
             columns,
-            longs: Vec::new(alloc),
+            var_len_values: Vec::new(alloc),
             told: Vec::new(alloc),
             current: Vec::new(alloc),
             stretches: Blocks::new(alloc),
@@ -87,7 +87,7 @@ impl ZoneMapBuilder {
         if column < self.columns as usize {
             tell(
                 &mut self.current,
-                &mut self.longs,
+                &mut self.var_len_values,
                 column as u32,
                 stat,
                 value,
@@ -131,7 +131,7 @@ impl ZoneMapBuilder {
     {
         let stretch = self.stretches.at(place);
         let told = &self.told[stretch.from..stretch.to];
-        let sets = sets_of(alloc, self.columns as usize, &self.longs, told)?;
+        let sets = sets_of(alloc, self.columns as usize, &self.var_len_values, told)?;
         Ok(Known {
             rows: stretch.rows,
             sets,
@@ -157,7 +157,7 @@ impl ZoneMapBuilder {
         let right = self.known(alloc, place + 1)?;
         let rows = left.rows + right.rows;
         let sets = merged_sets(alloc, columns, left.sets, &right.sets)?;
-        let mut told = told_of(alloc, &mut self.longs, sets)?;
+        let mut told = told_of(alloc, &mut self.var_len_values, sets)?;
         let joined = next_stretch(&mut self.told, told.len(), rows)?;
         self.stretches.join_at(place, joined);
         move_behind(&mut self.told, &mut told);
@@ -184,10 +184,10 @@ impl ZoneMapBuilder {
     fn cells_from(
         &self,
         alloc: Global,
-        heads: &[Head],
+        heads: &[StatColumn],
         from: usize,
         count: usize,
-    ) -> Result<Vec<Cells>, AllocError>
+    ) -> Result<Vec<ArrayData>, AllocError>
         requires { from + count ≤ length self.now.zones }
         ensures { IfOk result (λ cells.
             AreCells heads.now (zones_from from count self.now.zones) cells.items) }
@@ -199,7 +199,7 @@ impl ZoneMapBuilder {
             alloc,
             heads,
             links: &links,
-            longs: &self.longs,
+            var_len_values: &self.var_len_values,
         };
         let mut run = Run::none();
         for next in 0..count {

@@ -4,16 +4,16 @@ ghost use Rattle.vortex_zone_map.specs.Zone.{ZoneData};
 ghost use Rattle.vortex_zone_map.specs.ZoneMaps.{zone_column};
 ghost use Rattle.vortex_zone_map.specs.Tables.{AreCells, IsTable};
 
-use crate::zone_map::Head;
+use crate::zone_map::StatColumn;
 use std::alloc::{AllocError, Global};
-use vortex_base::cells::Cells;
+use vortex_base::array_data::ArrayData;
 use vortex_base::column::Column;
 
 /// The column under each head.
 pub fn columns_of(
     alloc: Global,
-    heads: &[Head],
-    table: Vec<Cells>,
+    heads: &[StatColumn],
+    table: Vec<ArrayData>,
 ) -> Result<Vec<Column>, AllocError>
     requires { IsTable heads.now table.items }
     ensures { IfOk result (λ columns. (zones : List ZoneData)

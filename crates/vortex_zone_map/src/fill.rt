@@ -1,36 +1,40 @@
 //! The cells of a table, of which some are set when others are known already.
 ghost use Rattle.std.specs.Prelude.{◌≡◌, IfOk, IsTrue, OnOk, Some, map, option_map, slice_set};
 ghost use Rattle.std.specs.Bool.{OnFalse};
-ghost use Rattle.vortex_base.specs.Data.Cells.{cell_values, short_value};
+ghost use Rattle.vortex_base.specs.Data.ArrayData.{cell_values, short_value};
 ghost use Rattle.vortex_zone_map.specs.Tables.{AreBlank};
 
-use crate::zone_map::Head;
+use crate::zone_map::StatColumn;
 use std::alloc::{AllocError, Global};
-use vortex_base::cells::{Cells, ShortCell};
+use vortex_base::array_data::{ArrayData, PrimitiveScalar};
 use vortex_base::dtype::DType;
 use vortex_base::native::Native;
-use vortex_base::natives::Natives;
 use vortex_base::nulls::Nulls;
+use vortex_base::primitive_array::PrimitiveArray;
 use vortex_base::scalar_value::ScalarValue;
 
 /// So many nulls under each head, which take no memory of their own.
-pub fn blank_table(alloc: Global, heads: &[Head], count: usize) -> Result<Vec<Cells>, AllocError>
+pub fn blank_table(
+    alloc: Global,
+    heads: &[StatColumn],
+    count: usize,
+) -> Result<Vec<ArrayData>, AllocError>
     ensures { IfOk result (λ cells. AreBlank heads.now count cells.items) }
 {
     let mut table = Vec::with_capacity(alloc, heads.len())?;
     for _place in 0..heads.len() {
-        table.push(Cells::Nulls(Nulls::new(alloc, count)))?;
+        table.push(ArrayData::Nulls(Nulls::new(alloc, count)))?;
     }
     Ok(table)
 }
 
 // Makes room for values of a type, where there are nulls alone.
 #[inline]
-fn make_room(alloc: Global, dtype: DType, cells: &mut Cells) -> Result<(), AllocError>
+fn make_room(alloc: Global, dtype: DType, cells: &mut ArrayData) -> Result<(), AllocError>
     ensures { OnOk result (cell_values cells.new ≡ cell_values cells.old) }
 {
-    if let Cells::Nulls(nulls) = cells {
-        *cells = Cells::nulls(alloc, dtype, nulls.count())?;
+    if let ArrayData::Nulls(nulls) = cells {
+        *cells = ArrayData::nulls(alloc, dtype, nulls.count())?;
     }
     Ok(())
 }
@@ -40,7 +44,7 @@ fn make_room(alloc: Global, dtype: DType, cells: &mut Cells) -> Result<(), Alloc
 pub fn set_cell(
     alloc: Global,
     dtype: DType,
-    cells: &mut Cells,
+    cells: &mut ArrayData,
     place: usize,
     value: Option<ScalarValue>,
 ) -> Result<(), AllocError>
@@ -50,7 +54,7 @@ pub fn set_cell(
         return Ok(());
     }
     // A null among nulls alone takes no room.
-    if let Cells::Nulls(_) = cells {
+    if let ArrayData::Nulls(_) = cells {
         if value.is_none() {
             return Ok(());
         }
@@ -61,7 +65,7 @@ pub fn set_cell(
 
 // Puts a number in the place of another of its type, if there is one. Whether it was put.
 #[inline(always)]
-fn put_number<T: Native>(natives: &mut Natives<T>, place: usize, number: T) -> bool
+fn put_number<T: Native>(natives: &mut PrimitiveArray<T>, place: usize, number: T) -> bool
     ensures put { IsTrue result → map (option_map T.scalar) natives.new
         ≡ slice_set (map (option_map T.scalar) natives.old) place (Some (T.scalar number)) }
     ensures same { OnFalse result (natives.new ≡ natives.old) }
@@ -77,18 +81,18 @@ fn put_number<T: Native>(natives: &mut Natives<T>, place: usize, number: T) -> b
 // foreseen where a jump by a table of all types isn't, as on a processor that guards against
 // Spectre.
 #[inline(always)]
-fn put_soon(cells: &mut Cells, place: usize, cell: ShortCell) -> bool
+fn put_soon(cells: &mut ArrayData, place: usize, cell: PrimitiveScalar) -> bool
     ensures put { IsTrue result → cell_values cells.new
         ≡ slice_set (cell_values cells.old) place (short_value cell) }
     ensures same { OnFalse result (cell_values cells.new ≡ cell_values cells.old) }
 {
-    if let (Cells::I64(natives), ShortCell::I64(number)) = (&mut *cells, cell) {
+    if let (ArrayData::I64(natives), PrimitiveScalar::I64(number)) = (&mut *cells, cell) {
         return put_number(natives, place, number);
     }
-    if let (Cells::I32(natives), ShortCell::I32(number)) = (&mut *cells, cell) {
+    if let (ArrayData::I32(natives), PrimitiveScalar::I32(number)) = (&mut *cells, cell) {
         return put_number(natives, place, number);
     }
-    if let (Cells::U64(natives), ShortCell::U64(number)) = (&mut *cells, cell) {
+    if let (ArrayData::U64(natives), PrimitiveScalar::U64(number)) = (&mut *cells, cell) {
         return put_number(natives, place, number);
     }
     false
@@ -99,9 +103,9 @@ fn put_soon(cells: &mut Cells, place: usize, cell: ShortCell) -> bool
 fn set_short(
     alloc: Global,
     dtype: DType,
-    cells: &mut Cells,
+    cells: &mut ArrayData,
     place: usize,
-    cell: ShortCell,
+    cell: PrimitiveScalar,
 ) -> Result<(), AllocError>
     ensures { OnOk result (cell_values cells.new
         ≡ slice_set (cell_values cells.old) place (short_value cell)) }
@@ -118,9 +122,9 @@ fn set_short(
 pub fn set_known(
     alloc: Global,
     dtype: DType,
-    cells: &mut Cells,
+    cells: &mut ArrayData,
     place: usize,
-    cell: ShortCell,
+    cell: PrimitiveScalar,
 ) -> Result<(), AllocError>
     ensures { OnOk result (cell_values cells.new
         ≡ slice_set (cell_values cells.old) place (short_value cell)) }

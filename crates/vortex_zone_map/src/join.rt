@@ -36,20 +36,20 @@ pub fn merged_sets(
 // Tells what a set says of the column at a place.
 fn tell_set(
     told: &mut Vec<StatEntry>,
-    longs: &mut Vec<ScalarValue>,
+    var_len_values: &mut Vec<ScalarValue>,
     column: u32,
     set: StatsSet,
 ) -> Result<(), AllocError>
-    requires { AreKept (length longs.old.items) told.old.items }
-    ensures told { OnOk result (said longs.new.items told.new.items
-        ≡ said longs.old.items told.old.items ++ said_in column set) }
-    ensures kept { OnOk result (AreKept (length longs.new.items) told.new.items) }
-    ensures longer { IsLonger longs.old.items longs.new.items }
+    requires { AreKept (length var_len_values.old.items) told.old.items }
+    ensures told { OnOk result (said var_len_values.new.items told.new.items
+        ≡ said var_len_values.old.items told.old.items ++ said_in column set) }
+    ensures kept { OnOk result (AreKept (length var_len_values.new.items) told.new.items) }
+    ensures longer { IsLonger var_len_values.old.items var_len_values.new.items }
     ensures distinct { AreDistinct set }
 {
     told.reserve(set.len())?;
     for entry in set {
-        tell(told, longs, column, entry.0, entry.1)?;
+        tell(told, var_len_values, column, entry.0, entry.1)?;
     }
     Ok(())
 }
@@ -57,19 +57,19 @@ fn tell_set(
 /// The claims by which these sets are known.
 pub fn told_of(
     alloc: Global,
-    longs: &mut Vec<ScalarValue>,
+    var_len_values: &mut Vec<ScalarValue>,
     sets: Vec<StatsSet>,
 ) -> Result<Vec<StatEntry>, AllocError>
     requires { length sets.items < 2 ^ 32 }
     ensures told { IfOk result (λ told.
-        sets_of (length sets.items) (said longs.new.items told.items) ≡ sets.items) }
-    ensures kept { IfOk result (λ told. AreKept (length longs.new.items) told.items) }
-    ensures longer { IsLonger longs.old.items longs.new.items }
+        sets_of (length sets.items) (said var_len_values.new.items told.items) ≡ sets.items) }
+    ensures kept { IfOk result (λ told. AreKept (length var_len_values.new.items) told.items) }
+    ensures longer { IsLonger var_len_values.old.items var_len_values.new.items }
 {
     let mut told = Vec::new(alloc);
     let mut column = 0u32;
     for set in sets {
-        tell_set(&mut told, longs, column, set)?;
+        tell_set(&mut told, var_len_values, column, set)?;
         column += 1;
     }
     Ok(told)

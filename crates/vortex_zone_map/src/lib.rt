@@ -22,4 +22,4 @@ pub use builder::ZoneMapBuilder;
 pub use stat_fn::{StatFn, StatOptions};
 pub use told::Told;
 pub use zone::Zone;
-pub use zone_map::{Head, TableRefused, ZoneMap, ZoneMapRefused};
+pub use zone_map::{StatColumn, TableRefused, ZoneMap, ZoneMapRefused};

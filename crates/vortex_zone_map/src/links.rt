@@ -5,7 +5,7 @@ ghost use Rattle.vortex_zone_map.specs.Tables as spec;
 ghost use Rattle.vortex_zone_map.specs.Tables.{AreLinked};
 
 use crate::stat_fn::StatFn;
-use crate::zone_map::Head;
+use crate::zone_map::StatColumn;
 use std::alloc::{AllocError, Global};
 use vortex_stats::stat::Stat;
 
@@ -49,11 +49,11 @@ impl Links {
     }
 
     // Links the head before those that are linked.
-    fn link(&mut self, columns: usize, head: &Head, place: usize)
+    fn link(&mut self, columns: usize, head: &StatColumn, place: usize)
         requires few { columns < 2 ^ 32 }
         requires wide { length self.old.firsts.items ≡ columns * 9 }
         requires there { place < length self.old.nexts.items }
-        ensures linked { (heads : List zones.Head) → slice_get heads place ≡ Some head.now
+        ensures linked { (heads : List zones.StatColumn) → slice_get heads place ≡ Some head.now
             → AreLinked heads (place + 1) self.old → AreLinked heads place self.new }
         ensures wide { length self.new.firsts.items ≡ length self.old.firsts.items }
         ensures long { length self.new.nexts.items ≡ length self.old.nexts.items }
@@ -70,7 +70,7 @@ impl Links {
 }
 
 /// The links of the heads, of so many columns.
-pub fn links_of(alloc: Global, columns: u32, heads: &[Head]) -> Result<Links, AllocError>
+pub fn links_of(alloc: Global, columns: u32, heads: &[StatColumn]) -> Result<Links, AllocError>
     ensures linked { IfOk result (AreLinked heads.now 0) }
     ensures wide { IfOk result (λ links. length links.firsts.items ≡ columns * 9) }
 {

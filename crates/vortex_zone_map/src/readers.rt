@@ -1,6 +1,6 @@
 //! The columns of a table, and what they read of what is told.
 ghost use Rattle.std.specs.Prelude.{◌≡◌, ◌*◌, ◌++◌, ◌∷◌, List, OnOk, length, slice_set};
-ghost use Rattle.vortex_base.specs.Data.Cells.{cell_values};
+ghost use Rattle.vortex_base.specs.Data.ArrayData.{cell_values};
 ghost use Rattle.vortex_zone_map.specs.StatValues.{told_value};
 ghost use Rattle.vortex_zone_map.specs.Zone.{Entries, ZoneData};
 ghost use Rattle.vortex_zone_map.specs.Kept.{said, saying, sets_with};
@@ -12,9 +12,9 @@ use crate::short::short_told;
 use crate::stat_entry::StatEntry;
 use crate::stat_fn::StatFn;
 use crate::stored_value::copy_of;
-use crate::zone_map::Head;
+use crate::zone_map::StatColumn;
 use std::alloc::{AllocError, Global};
-use vortex_base::cells::Cells;
+use vortex_base::array_data::ArrayData;
 use vortex_base::scalar_value::ScalarValue;
 
 /// The heads of a table, which of them read each statistic, the texts and bytes of a log, and what
@@ -22,9 +22,9 @@ use vortex_base::scalar_value::ScalarValue;
 #[derive(Clone, Copy)]
 pub struct Readers<'a> {
     pub alloc: Global,
-    pub heads: &'a [Head],
+    pub heads: &'a [StatColumn],
     pub links: &'a Links,
-    pub longs: &'a [ScalarValue],
+    pub var_len_values: &'a [ScalarValue],
 }
 
 impl Readers<'_> {
@@ -33,17 +33,21 @@ impl Readers<'_> {
     #[inline(never)]
     fn put_other(
         &self,
-        head: &Head,
-        cells: &mut Cells,
+        head: &StatColumn,
+        cells: &mut ArrayData,
         told: &StatEntry,
         zone: usize,
         rows: u64,
     ) -> Result<(), AllocError>
-        ensures { let said = (saying self.now.longs.now told.now).value in
+        ensures { let said = (saying self.now.var_len_values.now told.now).value in
             let value = told_value head.now.aggregate said rows in
             OnOk result (cell_values cells.new ≡ slice_set (cell_values cells.old) zone value) }
     {
-        let value = StatFn::told(head.aggregate(), copy_of(self.longs, told.kept())?, rows);
+        let value = StatFn::told(
+            head.aggregate(),
+            copy_of(self.var_len_values, told.kept())?,
+            rows,
+        );
         set_cell(self.alloc, head.dtype(), cells, zone, value)
     }
 
@@ -51,13 +55,13 @@ impl Readers<'_> {
     #[inline]
     fn put_value(
         &self,
-        head: &Head,
-        cells: &mut Cells,
+        head: &StatColumn,
+        cells: &mut ArrayData,
         told: &StatEntry,
         zone: usize,
         rows: u64,
     ) -> Result<(), AllocError>
-        ensures { let said = (saying self.now.longs.now told.now).value in
+        ensures { let said = (saying self.now.var_len_values.now told.now).value in
             let value = told_value head.now.aggregate said rows in
             OnOk result (cell_values cells.new ≡ slice_set (cell_values cells.old) zone value) }
     {
@@ -71,14 +75,14 @@ impl Readers<'_> {
     #[inline]
     fn put(
         &self,
-        cells: &mut [Cells],
+        cells: &mut [ArrayData],
         told: &StatEntry,
         zone: usize,
         rows: u64,
     ) -> Result<(), AllocError>
         requires readers { AreLinked self.now.heads.now 0 self.now.links.now }
         requires long { length cells.old ≡ length self.now.heads.now }
-        ensures { let t = saying self.now.longs.now told.now in
+        ensures { let t = saying self.now.var_len_values.now told.now in
             OnOk result ((before after : List ZoneData) (z : ZoneData) → length before ≡ zone
             → z.rows ≡ rows → length z.stats * 9 ≡ length self.now.links.now.firsts.items
             → AreCells self.now.heads.now (before ++ z ∷ after) cells.old
@@ -96,14 +100,14 @@ impl Readers<'_> {
     /// Puts all that is told of a zone under the heads that read it.
     pub fn put_all(
         &self,
-        cells: &mut [Cells],
+        cells: &mut [ArrayData],
         told: &[StatEntry],
         zone: usize,
         rows: u64,
     ) -> Result<(), AllocError>
         requires readers { AreLinked self.now.heads.now 0 self.now.links.now }
         requires long { length cells.old ≡ length self.now.heads.now }
-        ensures { let ts = said self.now.longs.now told.now in
+        ensures { let ts = said self.now.var_len_values.now told.now in
             let with : List Entries → ZoneData = λ sets. record { rows = rows; stats = sets } in
             OnOk result ((before after : List ZoneData) (sets : List Entries)
             → length before ≡ zone

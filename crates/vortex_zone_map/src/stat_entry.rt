@@ -1,7 +1,7 @@
 //! Claims of the columns of a zone, one statistic after another.
 ghost use Rattle.std.specs.Prelude.{◌≡◌, ◌+◌, ◌++◌, ◌-◌, ◌∷◌, ◌≤◌, [], IfOk, OnErr, OnOk, drop, length, slice_get, take};
 ghost use Rattle.std.specs.Prelude.{Some, vec_capacity, vec_len};
-ghost use Rattle.vortex_base.specs.Data.Cells.{short_value};
+ghost use Rattle.vortex_base.specs.Data.ArrayData.{short_value};
 ghost use Rattle.vortex_base.specs.declared.scalar_value.ScalarValue.TheVariants as value;
 ghost use Rattle.vortex_zone_map.specs.Kept.{AreKept, IsLonger, IsWithin, said, sets_of};
 ghost use Rattle.vortex_zone_map.specs.Logs as spec;
@@ -9,7 +9,7 @@ ghost use Rattle.vortex_zone_map.specs.Logs as spec;
 use crate::entry_range::EntryRange;
 use crate::stored_value::{StoredValue, ValueTag, copy_of, keep, number_in};
 use std::alloc::{AllocError, Global};
-use vortex_base::cells::ShortCell;
+use vortex_base::array_data::PrimitiveScalar;
 use vortex_base::pvalue::PValue;
 use vortex_base::scalar_value::ScalarValue;
 use vortex_stats::precision::Precision;
@@ -22,7 +22,7 @@ pub struct StatEntry {
     pub column: u32,
     pub stat: Stat,
     pub form: ValueTag,
-    pub cell: ShortCell,
+    pub cell: PrimitiveScalar,
 }
 
 impl StatEntry {
@@ -63,15 +63,16 @@ fn set_at(sets: &mut [StatsSet], place: usize, stat: Stat, value: Precision<Scal
 pub fn sets_of(
     alloc: Global,
     columns: usize,
-    longs: &[ScalarValue],
+    var_len_values: &[ScalarValue],
     told: &[StatEntry],
 ) -> Result<Vec<StatsSet>, AllocError>
-    ensures { IfOk result (λ sets. sets.items ≡ sets_of columns (said longs.now told.now)) }
+    ensures { let entries = said var_len_values.now told.now in
+        IfOk result (λ sets. sets.items ≡ sets_of columns entries) }
 {
     let mut sets = empty_sets(alloc, columns)?;
     for place in 0..told.len() {
         let next = &told[place];
-        let value = copy_of(longs, next.kept())?;
+        let value = copy_of(var_len_values, next.kept())?;
         set_at(&mut sets, next.column as usize, next.stat, value);
     }
     Ok(sets)
@@ -81,21 +82,21 @@ pub fn sets_of(
 #[inline(never)]
 fn tell_other(
     told: &mut Vec<StatEntry>,
-    longs: &mut Vec<ScalarValue>,
+    var_len_values: &mut Vec<ScalarValue>,
     column: u32,
     stat: Stat,
     value: Precision<ScalarValue>,
 ) -> Result<(), AllocError>
-    requires { AreKept (length longs.old.items) told.old.items }
-    ensures told { OnOk result (said longs.new.items told.new.items
-        ≡ said longs.old.items told.old.items
+    requires { AreKept (length var_len_values.old.items) told.old.items }
+    ensures told { OnOk result (said var_len_values.new.items told.new.items
+        ≡ said var_len_values.old.items told.old.items
         ++ record { column = column; stat = stat; value = value } ∷ []) }
     ensures refused { OnErr result (told.new.items ≡ told.old.items) }
-    ensures kept { AreKept (length longs.new.items) told.new.items }
-    ensures longer { IsLonger longs.old.items longs.new.items }
+    ensures kept { AreKept (length var_len_values.new.items) told.new.items }
+    ensures longer { IsLonger var_len_values.old.items var_len_values.new.items }
 {
     told.reserve(1)?;
-    let kept = keep(longs, value)?;
+    let kept = keep(var_len_values, value)?;
     told.push_reserved(StatEntry {
         column,
         stat,
@@ -107,26 +108,26 @@ fn tell_other(
 
 // The cell of a number of any type.
 #[inline(never)]
-fn other_cell(number: PValue) -> ShortCell
+fn other_cell(number: PValue) -> PrimitiveScalar
     ensures { short_value result ≡ Some (value.Primitive number) }
 {
-    ShortCell::of_number(number)
+    PrimitiveScalar::of_number(number)
 }
 
 // Takes a number as a cell. The types that most columns have are told apart by a test each, as a
 // cell is put.
 #[inline(always)]
-fn number_cell(number: PValue) -> ShortCell
+fn number_cell(number: PValue) -> PrimitiveScalar
     ensures { short_value result ≡ Some (value.Primitive number) }
 {
     if let PValue::I64(number) = number {
-        return ShortCell::I64(number);
+        return PrimitiveScalar::I64(number);
     }
     if let PValue::I32(number) = number {
-        return ShortCell::I32(number);
+        return PrimitiveScalar::I32(number);
     }
     if let PValue::U64(number) = number {
-        return ShortCell::U64(number);
+        return PrimitiveScalar::U64(number);
     }
     other_cell(number)
 }
@@ -135,18 +136,18 @@ fn number_cell(number: PValue) -> ShortCell
 #[inline(always)]
 pub fn tell(
     told: &mut Vec<StatEntry>,
-    longs: &mut Vec<ScalarValue>,
+    var_len_values: &mut Vec<ScalarValue>,
     column: u32,
     stat: Stat,
     value: Precision<ScalarValue>,
 ) -> Result<(), AllocError>
-    requires { AreKept (length longs.old.items) told.old.items }
-    ensures told { OnOk result (said longs.new.items told.new.items
-        ≡ said longs.old.items told.old.items
+    requires { AreKept (length var_len_values.old.items) told.old.items }
+    ensures told { OnOk result (said var_len_values.new.items told.new.items
+        ≡ said var_len_values.old.items told.old.items
         ++ record { column = column; stat = stat; value = value } ∷ []) }
     ensures refused { OnErr result (told.new.items ≡ told.old.items) }
-    ensures kept { AreKept (length longs.new.items) told.new.items }
-    ensures longer { IsLonger longs.old.items longs.new.items }
+    ensures kept { AreKept (length var_len_values.new.items) told.new.items }
+    ensures longer { IsLonger var_len_values.old.items var_len_values.new.items }
 {
     match number_in(&value) {
         Some((form, number)) => {
@@ -159,7 +160,7 @@ pub fn tell(
             });
             Ok(())
         }
-        None => tell_other(told, longs, column, stat, value),
+        None => tell_other(told, var_len_values, column, stat, value),
     }
 }
 

@@ -1,7 +1,7 @@
 //! Values as a log keeps them: truths and numbers in place, texts and bytes in a list beside it.
 ghost use Rattle.std.specs.Prelude.{◌≡◌, ℕ, IfOk, IfSome, List, Some, length};
-ghost use Rattle.vortex_base.specs.Data.Cells.{short_value};
-ghost use Rattle.vortex_base.specs.declared.cells.ShortCell as spec_cell;
+ghost use Rattle.vortex_base.specs.Data.ArrayData.{short_value};
+ghost use Rattle.vortex_base.specs.declared.array_data.PrimitiveScalar as spec_cell;
 ghost use Rattle.vortex_base.specs.declared.scalar_value.ScalarValue.{ScalarValue};
 ghost use Rattle.vortex_base.specs.declared.scalar_value.ScalarValue.TheVariants as spec_value;
 ghost use Rattle.vortex_zone_map.specs.Kept as spec;
@@ -9,7 +9,7 @@ ghost use Rattle.vortex_zone_map.specs.Kept.{IsFormed, IsKept, IsLonger, IsPlace
 ghost use Rattle.vortex_zone_map.specs.Kept.{kept_value};
 
 use std::alloc::AllocError;
-use vortex_base::cells::ShortCell;
+use vortex_base::array_data::PrimitiveScalar;
 use vortex_base::pvalue::PValue;
 use vortex_base::scalar_value::ScalarValue;
 use vortex_base::value_ref::ValueRef;
@@ -29,17 +29,17 @@ pub enum ValueTag {
 #[derive(Clone, Copy, Debug)]
 pub struct StoredValue {
     pub form: ValueTag,
-    pub cell: ShortCell,
+    pub cell: PrimitiveScalar,
 }
 
 /// The cell of a truth or a number.
 #[inline]
-pub fn short_cell(value: &ScalarValue) -> Option<ShortCell>
+pub fn short_cell(value: &ScalarValue) -> Option<PrimitiveScalar>
     ensures { IfSome result (λ cell. short_value cell ≡ Some value.now) }
 {
     match value {
-        ScalarValue::Bool(truth) => Some(ShortCell::Bool(*truth)),
-        ScalarValue::Primitive(number) => Some(ShortCell::of_number(*number)),
+        ScalarValue::Bool(truth) => Some(PrimitiveScalar::Bool(*truth)),
+        ScalarValue::Primitive(number) => Some(PrimitiveScalar::of_number(*number)),
         ScalarValue::Utf8(_) | ScalarValue::Binary(_) => None,
     }
 }
@@ -47,10 +47,11 @@ pub fn short_cell(value: &ScalarValue) -> Option<ShortCell>
 /// The number that is known, if one is, and whether exactly.
 #[inline]
 pub fn number_in(value: &Precision<ScalarValue>) -> Option<(ValueTag, PValue)>
-    ensures kept { IfSome result (λ found. (longs : List ScalarValue) (cell : spec_cell.ShortCell)
+    ensures kept { IfSome result (λ found.
+        (var_len_values : List ScalarValue) (cell : spec_cell.PrimitiveScalar)
         → short_value cell ≡ Some (spec_value.Primitive found.1)
-        → formed longs found.0 cell ≡ value.now) }
-    ensures placed { IfSome result (λ found. (count : ℕ) (cell : spec_cell.ShortCell)
+        → formed var_len_values found.0 cell ≡ value.now) }
+    ensures placed { IfSome result (λ found. (count : ℕ) (cell : spec_cell.PrimitiveScalar)
         → IsFormed count found.0 cell) }
 {
     match value {
@@ -62,25 +63,29 @@ pub fn number_in(value: &Precision<ScalarValue>) -> Option<(ValueTag, PValue)>
 
 // The place of a text or bytes, which goes behind the others.
 #[inline(never)]
-fn long_cell(longs: &mut Vec<ScalarValue>, value: ScalarValue) -> Result<ShortCell, AllocError>
-    ensures kept { IfOk result (λ cell. spec.long_value longs.new.items cell ≡ Some value) }
-    ensures placed { IfOk result (IsPlace (length longs.new.items)) }
-    ensures longer { IsLonger longs.old.items longs.new.items }
+fn long_cell(
+    var_len_values: &mut Vec<ScalarValue>,
+    value: ScalarValue,
+) -> Result<PrimitiveScalar, AllocError>
+    ensures kept { IfOk result (λ cell.
+        spec.long_value var_len_values.new.items cell ≡ Some value) }
+    ensures placed { IfOk result (IsPlace (length var_len_values.new.items)) }
+    ensures longer { IsLonger var_len_values.old.items var_len_values.new.items }
 {
-    let place = longs.len();
-    longs.push(value)?;
-    Ok(ShortCell::U64(place as u64))
+    let place = var_len_values.len();
+    var_len_values.push(value)?;
+    Ok(PrimitiveScalar::U64(place as u64))
 }
 
 /// Keeps a value. A text or bytes go behind the others.
 #[inline]
 pub fn keep(
-    longs: &mut Vec<ScalarValue>,
+    var_len_values: &mut Vec<ScalarValue>,
     value: Precision<ScalarValue>,
 ) -> Result<StoredValue, AllocError>
-    ensures kept { IfOk result (λ kept. kept_value longs.new.items kept ≡ value) }
-    ensures placed { IfOk result (IsKept (length longs.new.items)) }
-    ensures longer { IsLonger longs.old.items longs.new.items }
+    ensures kept { IfOk result (λ kept. kept_value var_len_values.new.items kept ≡ value) }
+    ensures placed { IfOk result (IsKept (length var_len_values.new.items)) }
+    ensures longer { IsLonger var_len_values.old.items var_len_values.new.items }
 {
     match value {
         Precision::Exact(value) => match short_cell(&value) {
@@ -90,7 +95,7 @@ pub fn keep(
             }),
             None => Ok(StoredValue {
                 form: ValueTag::LongExact,
-                cell: long_cell(longs, value)?,
+                cell: long_cell(var_len_values, value)?,
             }),
         },
         Precision::Inexact(value) => match short_cell(&value) {
@@ -100,19 +105,19 @@ pub fn keep(
             }),
             None => Ok(StoredValue {
                 form: ValueTag::LongInexact,
-                cell: long_cell(longs, value)?,
+                cell: long_cell(var_len_values, value)?,
             }),
         },
         Precision::Absent => Ok(StoredValue {
             form: ValueTag::Absent,
-            cell: ShortCell::Null,
+            cell: PrimitiveScalar::Null,
         }),
     }
 }
 
 /// A truth or a number.
 #[inline]
-pub fn short_copy(cell: ShortCell) -> Option<ScalarValue>
+pub fn short_copy(cell: PrimitiveScalar) -> Option<ScalarValue>
     ensures { result ≡ short_value cell }
 {
     match cell.lend() {
@@ -125,11 +130,14 @@ pub fn short_copy(cell: ShortCell) -> Option<ScalarValue>
 
 // A copy of the text or bytes at the place that a cell tells.
 #[inline(never)]
-fn long_copy(longs: &[ScalarValue], cell: ShortCell) -> Result<Option<ScalarValue>, AllocError>
-    ensures { IfOk result (λ value. value ≡ spec.long_value longs.now cell) }
+fn long_copy(
+    var_len_values: &[ScalarValue],
+    cell: PrimitiveScalar,
+) -> Result<Option<ScalarValue>, AllocError>
+    ensures { IfOk result (λ value. value ≡ spec.long_value var_len_values.now cell) }
 {
     match cell {
-        ShortCell::U64(place) => match longs.get(place as usize) {
+        PrimitiveScalar::U64(place) => match var_len_values.get(place as usize) {
             Some(value) => Ok(Some(value.lend().to_value()?)),
             None => Ok(None),
         },
@@ -162,16 +170,16 @@ fn inexact(value: Option<ScalarValue>) -> Precision<ScalarValue>
 /// A copy of a value. A text or bytes alone take memory.
 #[inline]
 pub fn copy_of(
-    longs: &[ScalarValue],
+    var_len_values: &[ScalarValue],
     kept: StoredValue,
 ) -> Result<Precision<ScalarValue>, AllocError>
-    ensures { IfOk result (λ copy. copy ≡ kept_value longs.now kept) }
+    ensures { IfOk result (λ copy. copy ≡ kept_value var_len_values.now kept) }
 {
     match kept.form {
         ValueTag::Absent => Ok(Precision::Absent),
         ValueTag::Exact => Ok(exact(short_copy(kept.cell))),
         ValueTag::Inexact => Ok(inexact(short_copy(kept.cell))),
-        ValueTag::LongExact => Ok(exact(long_copy(longs, kept.cell)?)),
-        ValueTag::LongInexact => Ok(inexact(long_copy(longs, kept.cell)?)),
+        ValueTag::LongExact => Ok(exact(long_copy(var_len_values, kept.cell)?)),
+        ValueTag::LongInexact => Ok(inexact(long_copy(var_len_values, kept.cell)?)),
     }
 }

@@ -5,7 +5,7 @@ ghost use Rattle.std.specs.Prelude.{◌+◌, ◌≤◌, [], vec_capacity, vec_le
 ghost use Rattle.std.specs.Prelude.{alloc_error, false, length, map, option_map, slice_get, string_bytes};
 ghost use Rattle.std.specs.Bool.{MatchBool};
 ghost use Rattle.std.specs.List.{list_all, zip};
-ghost use Rattle.vortex_base.specs.Data.Cells.{cell_values};
+ghost use Rattle.vortex_base.specs.Data.ArrayData.{cell_values};
 ghost use Rattle.vortex_base.specs.Data.Columns.{chunk_of, row_count};
 ghost use Rattle.vortex_base.specs.Data.Scopes.{IsScope, Named, named_columns};
 ghost use Rattle.vortex_expr.specs.Meanings.Typing.{stat_type};
@@ -25,29 +25,29 @@ use crate::zone::{Zone, sets_fit};
 use std::alloc::{AllocError, Global};
 use std::marker::Model;
 use vortex_base::aggregate::AggregateFnRef;
-use vortex_base::cells::Cells;
+use vortex_base::array_data::ArrayData;
 use vortex_base::chunk::Chunk;
 use vortex_base::column::Column;
 use vortex_base::dtype::DType;
 use vortex_base::scalar_value::ScalarValue;
 use vortex_base::scope::Scope;
-use vortex_rewrite::built::built;
+use vortex_rewrite::built::expect_memory_only;
 use vortex_stats::error::StatsError;
 
 /// A column of a map's table without its values: of which column of the scope it tells and what.
 #[derive(Debug, Drop)]
-pub struct Head {
+pub struct StatColumn {
     source: usize,
     aggregate: AggregateFnRef,
     name: String,
     dtype: DType,
 }
 
-impl Model for Head {
+impl Model for StatColumn {
     ghost use Rattle.std.specs.Prelude.{string_bytes};
-    ghost use Rattle.vortex_zone_map.specs.ZoneMaps.{Head};
+    ghost use Rattle.vortex_zone_map.specs.ZoneMaps.{StatColumn};
 
-    ghost Value = { Head };
+    ghost Value = { StatColumn };
 
     ghost view = { λ h. record {
       source = h.source;
@@ -57,7 +57,7 @@ impl Model for Head {
     } };
 }
 
-impl Head {
+impl StatColumn {
     /// The place in the scope of the column that it tells of.
     pub fn source(&self) -> usize
         ensures { result ≡ self.now.source }
@@ -140,7 +140,7 @@ fn zone_type(aggregate: AggregateFnRef, dtype: DType) -> Option<DType>
 // Adds the column for an aggregate of the scope's column at a place, if it supports its type.
 fn push_head(
     alloc: Global,
-    heads: &mut Vec<Head>,
+    heads: &mut Vec<StatColumn>,
     scope: &Scope,
     source: usize,
     aggregate: AggregateFnRef,
@@ -154,7 +154,7 @@ fn push_head(
         None => Ok(()),
         Some(dtype) => {
             let name = zone_name(alloc, scope.name(source), aggregate)?;
-            heads.push(Head {
+            heads.push(StatColumn {
                 source,
                 aggregate,
                 name,
@@ -168,7 +168,7 @@ fn push_head(
 // Adds those of the scope's column at a place for each aggregate that supports its type.
 fn push_heads(
     alloc: Global,
-    heads: &mut Vec<Head>,
+    heads: &mut Vec<StatColumn>,
     scope: &Scope,
     source: usize,
 ) -> Result<(), AllocError>
@@ -184,7 +184,11 @@ fn push_heads(
 }
 
 // The columns of the table, and where those of each column of the scope start.
-fn all_heads(alloc: Global, scope: &Scope, starts: &mut Vec<usize>) -> Result<Vec<Head>, AllocError>
+fn all_heads(
+    alloc: Global,
+    scope: &Scope,
+    starts: &mut Vec<usize>,
+) -> Result<Vec<StatColumn>, AllocError>
     requires { length starts.old.items ≡ 0 }
     ensures heads { IfOk result (λ hs. hs.items ≡ heads scope.now) }
     ensures starts { IfOk result (λ hs. starts.new.items ≡ starts_from 0 scope.now) }
@@ -212,13 +216,13 @@ fn zone_value(
 }
 
 // The values of a column of the table.
-fn zone_cells(alloc: Global, zones: &[Zone<'_>], head: &Head) -> Result<Cells, StatsError>
+fn zone_cells(alloc: Global, zones: &[Zone<'_>], head: &StatColumn) -> Result<ArrayData, StatsError>
     requires { EachTells zones.now head.now }
     ensures values { let told = zone_value head.now.aggregate head.now.source in
         IfOk result (λ cells. cell_values cells ≡ map told zones.now) }
     ensures memory { IfErr result (λ f. f ≡ Memory alloc_error) }
 {
-    let mut cells = Cells::with_capacity(alloc, head.dtype, zones.len())?;
+    let mut cells = ArrayData::with_capacity(alloc, head.dtype, zones.len())?;
     for place in 0..zones.len() {
         cells.push(zone_value(&zones[place], head.source, head.aggregate)?)?;
     }
@@ -289,7 +293,7 @@ fn row_of(
 }
 
 // A column of the table.
-fn zone_column(alloc: Global, zones: &[Zone<'_>], head: &Head) -> Result<Column, StatsError>
+fn zone_column(alloc: Global, zones: &[Zone<'_>], head: &StatColumn) -> Result<Column, StatsError>
     requires { EachTells zones.now head.now }
     ensures column { IfOk result (λ c. c ≡ spec.zone_column zones.now head.now) }
     ensures memory { IfErr result (λ f. f ≡ Memory alloc_error) }
@@ -302,9 +306,10 @@ fn zone_column(alloc: Global, zones: &[Zone<'_>], head: &Head) -> Result<Column,
 fn zone_columns(
     alloc: Global,
     zones: &[Zone<'_>],
-    heads: &[Head],
+    heads: &[StatColumn],
 ) -> Result<Vec<Column>, StatsError>
-    requires { (k : ℕ) (h : spec.Head) → slice_get heads.now k ≡ Some h → EachTells zones.now h }
+    requires { (k : ℕ) (h : spec.StatColumn) → slice_get heads.now k ≡ Some h
+        → EachTells zones.now h }
     ensures columns { IfOk result (λ cs. cs.items ≡ map (spec.zone_column zones.now) heads.now) }
     ensures memory { IfErr result (λ f. f ≡ Memory alloc_error) }
 {
@@ -316,12 +321,12 @@ fn zone_columns(
 }
 
 // Their names and types.
-fn names_of(alloc: Global, heads: Vec<Head>) -> Result<Vec<(String, DType)>, AllocError>
+fn names_of(alloc: Global, heads: Vec<StatColumn>) -> Result<Vec<(String, DType)>, AllocError>
     ensures { IfOk result (λ ns. named_columns ns.items ≡ map spec.named_head heads.items) }
 {
     let mut names = Vec::new(alloc);
     for head in heads {
-        let Head {
+        let StatColumn {
             source: _,
             aggregate: _,
             name,
@@ -355,14 +360,14 @@ fn table_of(
 }
 
 // Whether a column may stand under a head in a table of so many zones.
-fn stands_under(zones: usize, head: &Head, column: &Column) -> bool
+fn stands_under(zones: usize, head: &StatColumn, column: &Column) -> bool
     ensures { result ≡ stands_under zones head.now column.now }
 {
     head.dtype == column.dtype() && column.len() == zones && column.size() == 0
 }
 
 // Whether each may under the head beside it.
-fn pairs_stand(zones: usize, heads: &[Head], columns: &[Column]) -> bool
+fn pairs_stand(zones: usize, heads: &[StatColumn], columns: &[Column]) -> bool
     ensures { result ≡ list_all (λ p. stands_under zones p.0 p.1) (zip heads.now columns.now) }
 {
     heads
@@ -372,7 +377,7 @@ fn pairs_stand(zones: usize, heads: &[Head], columns: &[Column]) -> bool
 }
 
 // Whether there is one column a head, which may stand under it.
-fn all_stand(zones: usize, heads: &[Head], columns: &[Column]) -> bool
+fn all_stand(zones: usize, heads: &[StatColumn], columns: &[Column]) -> bool
     ensures { result ≡ all_stand zones heads.now columns.now }
 {
     heads.len() == columns.len() && pairs_stand(zones, heads, columns)
@@ -438,8 +443,7 @@ fn zones_fit(scope: &Scope, zones: &[Zone<'_>]) -> bool
 }
 
 /// How many rows each of some zones of one scope has, and a table of their statistics, which has
-/// one row a zone. The rows themselves need not be at hand, and the sets of which the table was
-/// made aren't kept.
+/// one row a zone. Neither the rows of the zones nor their sets are kept.
 #[derive(Debug, Drop)]
 pub struct ZoneMap {
     scope: Scope,
@@ -545,7 +549,7 @@ impl ZoneMap {
 
     /// The columns of the table of each map of a scope, in their order: for each column of the
     /// scope one for each aggregate that supports its type.
-    pub fn heads(alloc: Global, scope: &Scope) -> Result<Vec<Head>, AllocError>
+    pub fn heads(alloc: Global, scope: &Scope) -> Result<Vec<StatColumn>, AllocError>
         ensures { IfOk result (λ found. found.items ≡ heads scope.now) }
     {
         let mut starts = Vec::new(alloc);
@@ -668,7 +672,7 @@ impl ZoneMap {
                 self.rows.push_reserved(zone.rows());
                 Ok(())
             }
-            Err(refused) => built(Err(refused)),
+            Err(refused) => expect_memory_only(Err(refused)),
         }
     }
 

@@ -2,7 +2,7 @@
 use Rattle.std.proofs.Common.{◌≡◌, ◌<◌, ◌≤◌, ◌+◌, ◌-◌, ℕ, zero, suc, Bool, IsTrue, List, [], ◌∷◌, ◌++◌, Option, None, length, get_or, map, take, drop, slice_get, slice_range, refl, ap, ap₂, sym, subst, ◌∙◌, arith, nat_le}
 use Rattle.std.proofs.lemmas.Bool.{and_from, and_parts, eq-eqb, eqb-true, le-leb, leb-true}
 use Rattle.std.proofs.lemmas.List.{drop-append-le, drop-drop, drop_at, length-append, length-drop, length-map, length-take-le, take-append-drop, take-append-le, take_all}
-use Rattle.vortex_base.specs.Data.Blobs.{AreBlobs, blob, blob_at, blobs, blobs_from, rise, start_at}
+use Rattle.vortex_base.specs.Data.VarBinArray.{AreBlobs, blob, blob_at, blobs, blobs_from, rise, start_at}
 
 -- the ends that never fall
 

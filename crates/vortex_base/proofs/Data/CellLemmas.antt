@@ -2,7 +2,7 @@
 use Rattle.std.proofs.Common.{◌≡◌, ◌<◌, ◌+◌, ◌&&◌, ℕ, zero, suc, true, false, List, [], ◌∷◌, ◌++◌, Option, None, length, map, option_map, replicate, set, take, slice_get, refl, ap, sym, ◌∙◌, min, add-one, arith}
 use Rattle.std.proofs.lemmas.List.Folds.{list_all-append}
 use Rattle.vortex_base.specs.Data.Columns.{all_fit, value_at}
-use Rattle.vortex_base.specs.Data.Natives.{native_at}
+use Rattle.vortex_base.specs.Data.PrimitiveArray.{native_at}
 use Rattle.vortex_base.specs.Data.Scalars.{is_optional_value}
 use Rattle.vortex_base.specs.declared.dtype.DType.{DType}
 use Rattle.vortex_base.specs.declared.scalar_value.ScalarValue.{ScalarValue}

@@ -1,6 +1,6 @@
 -- Optional values that are kept as two lists.
 use Rattle.std.proofs.Common.{◌≡◌, ◌<◌, ◌≤◌, ◌-◌, ℕ, zero, suc, Bool, true, false, List, [], ◌∷◌, ◌++◌, None, Some, length, get_or, map, replicate, set, take, slice_get, refl, ap, ap₂, ◌∙◌, arith}
-use Rattle.vortex_base.specs.Data.Natives.{native_at, optional, optionals}
+use Rattle.vortex_base.specs.Data.PrimitiveArray.{native_at, optional, optionals}
 
 pub optionals-length : {X : Type 0} (xs : List X) (ts : List Bool) → length xs ≡ length ts → length (optionals xs ts) ≡ length xs
 optionals-length [] ts h = refl

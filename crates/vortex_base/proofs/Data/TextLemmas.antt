@@ -2,8 +2,8 @@
 use Rattle.std.proofs.Common.{◌≡◌, ℕ, zero, suc, true, IsTrue, List, [], ◌∷◌, ◌++◌, Option, Result, Some, Ok, Err, OnOk, OnErr, take, slice_get, refl, ap, subst, sym, ◌∙◌}
 use Rattle.std.specs.Str.{is_utf8}
 use Rattle.std.proofs.lemmas.Bool.{and_from, and_parts}
-use Rattle.vortex_base.specs.Data.Blobs.{blob_at}
-use Rattle.vortex_base.specs.Data.Texts.{are_texts, is_text}
+use Rattle.vortex_base.specs.Data.VarBinArray.{blob_at}
+use Rattle.vortex_base.specs.Data.Utf8Array.{are_texts, is_text}
 
 -- a text that is there is UTF-8
 pub text-at : (ts : List (Option (List ℕ))) (i : ℕ) (b : List ℕ) → IsTrue (are_texts ts) → Some b ≡ blob_at (slice_get ts i) → is_utf8 b ≡ true

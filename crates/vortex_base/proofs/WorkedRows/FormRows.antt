@@ -2,8 +2,8 @@
 use Rattle.std.proofs.Common.{refl}
 use Rattle.std.specs.Prelude.{true, [], Option, Some, None, Vec, negsuc}
 use Rattle.std.specs.declared.alloc.Global.{Global}
-use Rattle.vortex_base.specs.Data.Cells.{IsOfOtherForm}
-use Rattle.vortex_base.specs.declared.cells.Cells.TheVariants as cells
+use Rattle.vortex_base.specs.Data.ArrayData.{IsOfOtherForm}
+use Rattle.vortex_base.specs.declared.array_data.ArrayData.TheVariants as cells
 use Rattle.vortex_base.specs.declared.pvalue.PValue.TheVariants as number
 use Rattle.vortex_base.specs.declared.scalar_value.ScalarValue.{ScalarValue}
 use Rattle.vortex_base.specs.declared.scalar_value.ScalarValue.TheVariants as value

@@ -1,12 +1,12 @@
 -- Worked cases of the forms in which a column keeps its values.
 use Rattle.std.specs.Prelude.{◌≡◌, ℕ, true, false, [], ◌∷◌, Some, None, pos, negsuc}
-use Rattle.vortex_base.specs.Data.Blobs.{blob_at, blobs, rise, start_at}
-use Rattle.vortex_base.specs.Data.Cells.{cell_values, short_value}
-use Rattle.vortex_base.specs.Data.Natives.{native_at, optionals}
-use Rattle.vortex_base.specs.Data.Texts.{are_texts}
+use Rattle.vortex_base.specs.Data.VarBinArray.{blob_at, blobs, rise, start_at}
+use Rattle.vortex_base.specs.Data.ArrayData.{cell_values, short_value}
+use Rattle.vortex_base.specs.Data.PrimitiveArray.{native_at, optionals}
+use Rattle.vortex_base.specs.Data.Utf8Array.{are_texts}
 use Rattle.vortex_base.specs.Worked.Examples.{text_a, text_e_acute}
-use Rattle.vortex_base.specs.declared.cells.Cells.TheVariants as cells
-use Rattle.vortex_base.specs.declared.cells.ShortCell.TheVariants as short
+use Rattle.vortex_base.specs.declared.array_data.ArrayData.TheVariants as cells
+use Rattle.vortex_base.specs.declared.array_data.PrimitiveScalar.TheVariants as short
 use Rattle.vortex_base.specs.declared.pvalue.PValue.TheVariants as number
 use Rattle.vortex_base.specs.declared.scalar_value.ScalarValue.TheVariants as value
 
@@ -52,7 +52,7 @@ pub record CellExamples : Type 0 where
   pub of_i16 : cell_values (cells.I16 (Some (negsuc 4) ∷ None ∷ [])) ≡ Some (value.Primitive (number.I16 (negsuc 4))) ∷ None ∷ []
   pub of_i32 : cell_values (cells.I32 (Some (pos 5) ∷ None ∷ [])) ≡ Some (value.Primitive (number.I32 (pos 5))) ∷ None ∷ []
   pub of_i64 : cell_values (cells.I64 (Some (pos 5) ∷ None ∷ [])) ≡ Some (value.Primitive (number.I64 (pos 5))) ∷ None ∷ []
-  pub texts : cell_values (cells.Texts (Some text_a ∷ None ∷ [])) ≡ Some (value.Utf8 text_a) ∷ None ∷ []
+  pub texts : cell_values (cells.Utf8 (Some text_a ∷ None ∷ [])) ≡ Some (value.Utf8 text_a) ∷ None ∷ []
   pub byte_strings : cell_values (cells.Binary (Some text_a ∷ None ∷ [])) ≡ Some (value.Binary text_a) ∷ None ∷ []
   pub short_null : short_value short.Null ≡ None
   pub short_truth : short_value (short.Bool true) ≡ Some (value.Bool true)

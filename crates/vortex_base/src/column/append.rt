@@ -17,7 +17,7 @@ impl Column {
         Ok(())
     }
 
-    // Drops the copies of another column's values, which were added last, and the other's size.
+    // Truncates the column to what it was before another's values and size were added.
     fn take_back(&mut self, other: &Column)
         requires { (c : ColumnData) × (appended c other.now ≡ self.old) }
         ensures { (c : ColumnData) → appended c other.now ≡ self.old → self.new ≡ c }
@@ -35,7 +35,8 @@ impl Column {
     }
 }
 
-// Takes back from the first columns, of this number, what was added of those beside them.
+// Truncates the first columns, of this number, to what they were before those beside them were
+// added.
 fn take_back_each(columns: &mut [Column], others: &[Column], count: usize)
     requires added { (cs : List ColumnData)
         × (all_appended cs (take count others.now) ≡ columns.old) }
@@ -50,7 +51,7 @@ fn take_back_each(columns: &mut [Column], others: &[Column], count: usize)
 }
 
 // Adds to each column copies of the values of the one beside it, and its size. Where memory is
-// refused, what was added is taken back.
+// refused, the columns are truncated to what they were.
 fn extend_each(columns: &mut [Column], others: &[Column]) -> Result<(), AllocError>
     requires { IsTrue (can_append columns.old others.now) }
     ensures extended { OnOk result (columns.new ≡ all_appended columns.old others.now) }

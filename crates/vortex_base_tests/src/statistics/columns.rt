@@ -7,7 +7,7 @@ use crate::statistics::testing::{has, truth, word};
 use crate::statistics::writers::accumulated;
 use std::alloc::Global;
 use std::process::Abort;
-use vortex_base::cells::Cells;
+use vortex_base::array_data::ArrayData;
 use vortex_base::column::Column;
 use vortex_base::dtype::DType;
 use vortex_base::scalar_value::ScalarValue;
@@ -80,7 +80,7 @@ fn text(rt: &impl Abort, alloc: Global, text: &str) -> ScalarValue {
 #[test]
 fn texts_are_measured(rt: HostRuntime) {
     let alloc = rt.alloc();
-    let mut cells = Cells::new(alloc, UTF8_OR_NULL);
+    let mut cells = ArrayData::new(alloc, UTF8_OR_NULL);
     cells
         .push(Some(text(&rt, alloc, "\u{FF5E}")))
         .expect(&rt, "a text");

@@ -3,7 +3,7 @@ use Rattle.std.specs.Prelude.{◌≡◌, ℕ, Bool, true, false, not as not_b, L
 use Rattle.vortex_expr.specs.declared.bound_expression.row_test.Leaf.{Leaf}
 use Rattle.vortex_expr.specs.declared.bound_expression.row_test.Leaf.TheVariants.{Of, Inner}
 use Rattle.vortex_expr.specs.Meanings.Meaning.{meaning}
-use Rattle.vortex_base.specs.Data.Cells.{value_of}
+use Rattle.vortex_base.specs.Data.ArrayData.{value_of}
 use Rattle.vortex_base.specs.Data.Scalars.{Constant}
 use Rattle.vortex_expr.specs.Trees.Tree.{Tree, Place, column, literal}
 

@@ -6,7 +6,7 @@
 ghost use Rattle.std.specs.Prelude.{◌≡◌, is_none, option_map};
 ghost use Rattle.vortex_expr.specs.Meanings.Meaning as spec;
 ghost use Rattle.vortex_expr.specs.Meanings.Meaning.{meaning};
-ghost use Rattle.vortex_base.specs.Data.Cells.{value_of};
+ghost use Rattle.vortex_base.specs.Data.ArrayData.{value_of};
 ghost use Rattle.vortex_expr.specs.Meanings.RowTest.{Lends, is_wanted};
 
 use crate::bound_expression::{BoundExpression, Node};

@@ -2,9 +2,9 @@
 use Rattle.std.proofs.Common.{◌≡◌, ℕ, ◌+◌, ◌<◌, Bool, true, false, List, [], ◌∷◌, Option, Some, None, arith, get_or, length, map, replicate, refl, sym, ap, ◌∙◌, zero, suc, ◌⊎◌, inl, inr}
 use Rattle.std.specs.Prelude.{◌&&◌, is_none, not, option_map, slice_get}
 use Rattle.std.specs.declared.cmp.Ordering.{Ordering}
-use Rattle.vortex_base.specs.Data.Blobs.{blob_at}
+use Rattle.vortex_base.specs.Data.VarBinArray.{blob_at}
 use Rattle.vortex_base.specs.Data.Columns.{value_at}
-use Rattle.vortex_base.specs.Data.Natives.{optional, optionals}
+use Rattle.vortex_base.specs.Data.PrimitiveArray.{optional, optionals}
 use Rattle.vortex_base.specs.Data.Values.{value_cmp}
 use Rattle.vortex_expr.specs.Meanings.Meaning.{holds}
 use Rattle.vortex_base.specs.declared.scalar_value.ScalarValue.{ScalarValue}

@@ -8,9 +8,9 @@ use Rattle.std.specs.List.Sorted.{IsPartitionPoint, IsPartitionedBy}
 use Rattle.std.specs.Prelude.{IfSome, MatchOption, is_some, option_map, slice_get}
 use Rattle.std.specs.declared.cmp.Ordering.{Ordering}
 use Rattle.std.specs.declared.cmp.Ordering.TheVariants.{Less, Equal, Greater}
-use Rattle.vortex_base.specs.Data.Cells.{value_of}
+use Rattle.vortex_base.specs.Data.ArrayData.{value_of}
 use Rattle.vortex_base.specs.Data.Columns.{value_at}
-use Rattle.vortex_base.specs.Data.Natives.{native_at}
+use Rattle.vortex_base.specs.Data.PrimitiveArray.{native_at}
 use Rattle.vortex_base.specs.Data.Values.{value_cmp}
 use Rattle.vortex_base.specs.declared.scalar_value.ScalarValue.{ScalarValue}
 use Rattle.vortex_expr.specs.Meanings.Meaning.{holds, is_true}

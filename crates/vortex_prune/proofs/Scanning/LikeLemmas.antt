@@ -9,7 +9,7 @@ use Rattle.std.specs.Str.Pattern.{FindsTextSuffix, HasSuffixMatch}
 use Rattle.std.proofs.lemmas.Bool.{and_parts, eq-eqb, eqb-true}
 use Rattle.std.proofs.lemmas.List.{get_or-append-add, take-append-drop}
 use Rattle.std.proofs.lemmas.Str.{IsCharBoundary-start, IsUtf8-take, chars-append, chars-nil, chars_from_encodes, chars_past_char, encode_ascii, encodes-append, encodes-chars, length-le-encodes}
-use Rattle.vortex_base.specs.Data.Blobs.{blob_at}
+use Rattle.vortex_base.specs.Data.VarBinArray.{blob_at}
 use Rattle.vortex_base.specs.declared.scalar_value.ScalarValue.{ScalarValue}
 use Rattle.vortex_base.specs.declared.scalar_value.ScalarValue.TheVariants as value
 use Rattle.vortex_expr.specs.Patterns.Like.{Backslash, Percent, Plain, Underscore, items, items_after, items_from, like, like_text, sign_of, some_end}

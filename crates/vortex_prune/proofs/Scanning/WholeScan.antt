@@ -16,7 +16,7 @@ use Rattle.vortex_prune.proofs.Binding.BoundValues.{has_a_type}
 use Rattle.vortex_prune.proofs.Scanning.BinderScan.{element_there}
 use Rattle.vortex_prune.proofs.Scanning.Lossless.{IsAnswered, selected_full}
 use Rattle.vortex_prune.proofs.Scanning.SkippedParts.{scans_skip_exactly}
-use Rattle.vortex_rewrite.specs.Rewriting.ReadOnce.{IsSatisfiable, is_apart}
+use Rattle.vortex_rewrite.specs.Rewriting.ReadOnce.{IsSatisfiable, has_disjoint_ands}
 use Rattle.vortex_prune.specs.Scanning.Complete.{IsBoxIn, SkipsExactly, by_own_statistics}
 use Rattle.vortex_rewrite.specs.Rewriting.Lawful.{OwnRule}
 use Rattle.vortex_prune.specs.Part.{AreParts, IsPart, PartData, zone_of}
@@ -82,7 +82,7 @@ module _ {S : Type 0} (value : S → List Constant → ℕ → Assignment) where
 
   -- by built-in rules and the parts' own statistics a predicate whose ANDs are apart skips exactly what its bounds rule out
   pub skips_exactly : (p : Tree Place) (parts : List PartData) (binders : List S) (skipped : List ℕ) → length binders ≡ length parts → IsTrue (is_predicate p) → All (Fits p) parts → AreParts parts
-      → AreByStatistics value parts binders → IsTrue (is_apart p) → skipped ≡ skipped_parts (falsifier [] p) (answered value parts binders) → SkipsExactly p parts skipped
+      → AreByStatistics value parts binders → IsTrue (has_disjoint_ands p) → skipped ≡ skipped_parts (falsifier [] p) (answered value parts binders) → SkipsExactly p parts skipped
   skips_exactly p parts binders skipped long predicate fits are own once is i zone box there is_box order =
       let t = typed_bool p (type_of p) refl predicate in
       let same : skipped ≡ skipped_parts (falsifier [] p) (by_own_statistics parts) = is ∙ ap (skipped_parts (falsifier [] p)) (by_statistics parts binders long own) in

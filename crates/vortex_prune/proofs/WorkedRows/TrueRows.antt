@@ -25,7 +25,7 @@ use Rattle.vortex_zone_map.specs.StatValues.{all_null_value, count_of, null_coun
 use Rattle.vortex_zone_map.specs.GivenTables.{is_table, map_with}
 use Rattle.vortex_zone_map.specs.Zone.{Entries, ZoneData}
 use Rattle.vortex_prune.specs.Scanning.TrueRows.{IsTrueRow, value_in}
-use Rattle.vortex_zone_map.specs.ZoneMaps.{Head, IsMapOf, MapData, head, heads, set_value}
+use Rattle.vortex_zone_map.specs.ZoneMaps.{StatColumn, IsMapOf, MapData, head, heads, set_value}
 use mathlib.Core.Bool.{true≢false}
 
 abbrev i64_type : DType
@@ -68,20 +68,20 @@ none_below : NoneBelow (value.Primitive (number.I64 (pos 1))) values
 none_below = (least_claims values (value.Primitive (number.I64 (pos 1))) refl).1
 
 -- what is a fact below one head is a fact below the head at its place, and of the column that it tells of
-module _ (m : MapData) (i : ℕ) (own : Head) (here : ColumnData) (of : slice_get rows.columns own.source ≡ Some here) (fact : IsFact own.aggregate (value_in m 0 i) here.values (Some here.size)) where
-  below : (h : Head) (c : ColumnData) → Some own ≡ Some h → slice_get rows.columns h.source ≡ Some c → IsFact h.aggregate (value_in m 0 i) c.values (Some c.size)
+module _ (m : MapData) (i : ℕ) (own : StatColumn) (here : ColumnData) (of : slice_get rows.columns own.source ≡ Some here) (fact : IsFact own.aggregate (value_in m 0 i) here.values (Some here.size)) where
+  below : (h : StatColumn) (c : ColumnData) → Some own ≡ Some h → slice_get rows.columns h.source ≡ Some c → IsFact h.aggregate (value_in m 0 i) c.values (Some c.size)
   below h c at there =
       let same : own ≡ h = same_Some own h at in
-      let one : here ≡ c = same_Some here c (sym of ∙ ap (λ (x : Head). slice_get rows.columns x.source) same ∙ there) in
-      subst (λ (x : Head). IsFact x.aggregate (value_in m 0 i) c.values (Some c.size)) same (subst (λ (x : ColumnData). IsFact own.aggregate (value_in m 0 i) x.values (Some x.size)) one fact)
+      let one : here ≡ c = same_Some here c (sym of ∙ ap (λ (x : StatColumn). slice_get rows.columns x.source) same ∙ there) in
+      subst (λ (x : StatColumn). IsFact x.aggregate (value_in m 0 i) c.values (Some c.size)) same (subst (λ (x : ColumnData). IsFact own.aggregate (value_in m 0 i) x.values (Some x.size)) one fact)
 
 abbrev a : ColumnData
 a = record { dtype = i64_type; values = values; size = 0 }
 
-abbrev head_of : AggregateFnRef → Head
+abbrev head_of : AggregateFnRef → StatColumn
 head_of f = head 0 (codes "a", i64_type) f
 
-kept_facts : (i : ℕ) (h : Head) (c : ColumnData) → slice_get (heads scope) i ≡ Some h → slice_get rows.columns h.source ≡ Some c → IsFact h.aggregate (value_in kept 0 i) c.values (Some c.size)
+kept_facts : (i : ℕ) (h : StatColumn) (c : ColumnData) → slice_get (heads scope) i ≡ Some h → slice_get rows.columns h.source ≡ Some c → IsFact h.aggregate (value_in kept 0 i) c.values (Some c.size)
 kept_facts zero h c at there = below kept 0 (head_of Max) a refl none_above h c at there
 kept_facts (suc zero) h c at there = below kept 1 (head_of Min) a refl none_below h c at there
 kept_facts (suc (suc zero)) h c at there = below kept 2 (head_of Sum) a refl tt h c at there

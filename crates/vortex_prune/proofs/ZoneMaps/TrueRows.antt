@@ -33,7 +33,7 @@ use Rattle.vortex_prune.specs.Scanning.Selection.{is_skipped, is_whole, places_w
 use Rattle.vortex_prune.specs.Scanning.TrueRows.{EachRowOf, IsTrueRow, ZonesHaveTrueRows, value_in}
 use Rattle.vortex_prune.specs.Scanning.ZoneScans.{AreRowVerdicts, EachSatisfies, row_values, row_verdict, row_verdicts}
 use Rattle.vortex_prune.specs.Zones.{cell_at}
-use Rattle.vortex_zone_map.specs.ZoneMaps.{HasTable, Head, IsMapOf, MapData, head, heads, set_value, type_or_null, zone_place, zone_type}
+use Rattle.vortex_zone_map.specs.ZoneMaps.{HasTable, StatColumn, IsMapOf, MapData, head, heads, set_value, type_or_null, zone_place, zone_type}
 use Rattle.vortex_prune.specs.declared.scan.verdict.Verdict.{Verdict}
 use Rattle.vortex_rewrite.proofs.NullErasure.{typed_null}
 use Rattle.vortex_rewrite.specs.Facts.{IsFact, IsHonest, is_column_of, is_over, meanings, size_of}
@@ -85,7 +85,7 @@ module _ (m : MapData) (table : HasTable m) (r : ℕ) (k : ChunkData) (row : IsT
   place_type f c t h None e = typed_null f (Ok c.dtype) t h
   place_type f c t h (Some j) e =
       let q = place_of m.scope c.index f c.dtype j e in
-      let cell = pointwise_at (λ (x : Head) (y : Constant). dtype_eq x.dtype y.dtype) (heads m.scope) (row_of r m.table.columns) j (head c.index q.0 f) (row_is_zone_row m.scope m.table r table.is_chunk table.named) q.3 in
+      let cell = pointwise_at (λ (x : StatColumn) (y : Constant). dtype_eq x.dtype y.dtype) (heads m.scope) (row_of r m.table.columns) j (head c.index q.0 f) (row_is_zone_row m.scope m.table r table.is_chunk table.named) q.3 in
       let type : zone_type f q.0.1 ≡ t = ap type_or_null (same_stat_type f q.0.1 c.dtype ((dtype_eq_is_exact (as_nullable q.0.1) (as_nullable c.dtype)).0 q.2) ∙ h) in
       let own : cell.0.dtype ≡ t = sym ((dtype_eq_is_exact (zone_type f q.0.1) cell.0.dtype).0 cell.2) ∙ type in
       ap (λ v. is_optional_value (cell_value v) t) cell.1 ∙ ap (is_optional_value cell.0.value) (sym own) ∙ value_typed (row_of r m.table.columns) j cell.0 (row_of-IsRow m.table r table.is_chunk within) cell.1
@@ -156,7 +156,7 @@ module _ (rules : List OwnRule) (p : Tree Place) (m : MapData) (table : HasTable
 
 module _ (m : MapData) (zones : List ZoneData) (r : ℕ) (zone : ZoneData) (part : PartData) (of : IsMapOf zones m) (there : slice_get zones r ≡ Some zone) (is : IsPartOf m.scope zone part) (is_true : IsTruePart part) where
   -- what stands in its row is what its set tells
-  value_told : (j : ℕ) (h : Head) → slice_get (heads m.scope) j ≡ Some h → value_in m r j ≡ set_value h.aggregate (slice_get part.stats h.source) zone.rows
+  value_told : (j : ℕ) (h : StatColumn) → slice_get (heads m.scope) j ≡ Some h → value_in m r j ≡ set_value h.aggregate (slice_get part.stats h.source) zone.rows
   value_told j h at =
       ap (λ (x : MapData). cell_value (slice_get (row_of r x.table.columns) j)) of.same ∙ cell_is (heads m.scope) zones r j h zone at there
       ∙ ap (λ (z : ZoneData). set_value h.aggregate (slice_get z.stats h.source) zone.rows) (sym is.known)

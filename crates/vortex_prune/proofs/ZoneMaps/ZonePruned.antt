@@ -30,7 +30,7 @@ use Rattle.vortex_rewrite.specs.Rewriting.Falsifiers.{falsifier, satisfier}
 use Rattle.vortex_rewrite.specs.Rewriting.Lawful.{OwnRule}
 use Rattle.vortex_rewrite.specs.Rewriting.Predicates.{is_predicate}
 use Rattle.vortex_rewrite.specs.Rewriting.Proof.{Assignment, is_open}
-use Rattle.vortex_rewrite.specs.Rewriting.ReadOnce.{is_apart}
+use Rattle.vortex_rewrite.specs.Rewriting.ReadOnce.{has_disjoint_ands}
 
 -- one more element was looked at
 pub places_more : {X : Type 0} (test : X → Bool) (xs : List X) (n : ℕ) (d : X) → n < length xs → places_where test (take (n + 1) xs) ≡ places_where test (take n xs) ++ place_if (test (get_or xs n d)) n
@@ -117,7 +117,7 @@ pruning_is_sound rules p scope zones skipped whole predicate plain fits is also 
 
 -- ---- completeness
 
-pub pruning_is_complete : (p : Tree Place) (scope : List Named) (zones : List ZoneData) (skipped : List ℕ) → IsTrue (is_predicate p) → IsTrue (fits_scope p scope) → AreZonesOf scope zones → IsTrue (is_apart p)
+pub pruning_is_complete : (p : Tree Place) (scope : List Named) (zones : List ZoneData) (skipped : List ℕ) → IsTrue (is_predicate p) → IsTrue (fits_scope p scope) → AreZonesOf scope zones → IsTrue (has_disjoint_ands p)
     → skipped ≡ skipped_zones (falsifier [] p) scope zones → ZonesSkipExactly p zones skipped
 pruning_is_complete p scope zones skipped predicate fits are once is i zone box there is_box order =
     let t = typed_bool p (type_of p) refl predicate in

@@ -36,11 +36,11 @@ use Rattle.vortex_rewrite.specs.Rewriting.Proof.{Assignment}
 use Rattle.vortex_zone_map.specs.StatValues.{exact_value, stat_value}
 use Rattle.vortex_zone_map.proofs.ZoneMaps.HeadPlaces.{place_of}
 use Rattle.vortex_prune.specs.Zones.{cell_at, is_zone_row, zone_values}
-use Rattle.vortex_zone_map.specs.ZoneMaps.{Head, IsMapOf, MapData, head, heads, named_head, offset, set_value, supporting, zone_column, zone_columns, zone_place, zone_value}
+use Rattle.vortex_zone_map.specs.ZoneMaps.{StatColumn, IsMapOf, MapData, head, heads, named_head, offset, set_value, supporting, zone_column, zone_columns, zone_place, zone_value}
 
 -- ---- the row's types
 
-row_types : (hs : List Head) (cs : List ColumnData) (r : ℕ) → has_types (map named_head hs) cs ≡ true → pointwise (λ (h : Head) (c : Constant). dtype_eq h.dtype c.dtype) hs (row_of r cs) ≡ true
+row_types : (hs : List StatColumn) (cs : List ColumnData) (r : ℕ) → has_types (map named_head hs) cs ≡ true → pointwise (λ (h : StatColumn) (c : Constant). dtype_eq h.dtype c.dtype) hs (row_of r cs) ≡ true
 row_types [] [] r h = refl
 row_types [] (c ∷ cs) r h = cc
 row_types (x ∷ hs) [] r h = cc
@@ -55,13 +55,13 @@ abbrev cell_of : ℕ → ColumnData → Constant
 cell_of r c = record { dtype = c.dtype; value = value_at (slice_get c.values r) }
 
 -- in a table with the zones' column below a head
-pub cell_told : (cs : List ColumnData) (zones : List ZoneData) (r k : ℕ) (h : Head) (z : ZoneData) (c : ColumnData) → slice_get cs k ≡ Some c → c ≡ zone_column zones h → slice_get zones r ≡ Some z
+pub cell_told : (cs : List ColumnData) (zones : List ZoneData) (r k : ℕ) (h : StatColumn) (z : ZoneData) (c : ColumnData) → slice_get cs k ≡ Some c → c ≡ zone_column zones h → slice_get zones r ≡ Some z
     → cell_value (slice_get (row_of r cs) k) ≡ zone_value h.aggregate h.source z
 cell_told cs zones r k h z c there is zone =
     let one : slice_get (row_of r cs) k ≡ Some (cell_of r (zone_column zones h)) = slice_get-map (cell_of r) cs k ∙ ap (option_map (cell_of r)) (there ∙ ap Some is) in
     ap cell_value one ∙ ap value_at (slice_get-map (zone_value h.aggregate h.source) zones r ∙ ap (option_map (zone_value h.aggregate h.source)) zone)
 
-pub cell_is : (hs : List Head) (zones : List ZoneData) (r k : ℕ) (h : Head) (z : ZoneData) → slice_get hs k ≡ Some h → slice_get zones r ≡ Some z
+pub cell_is : (hs : List StatColumn) (zones : List ZoneData) (r k : ℕ) (h : StatColumn) (z : ZoneData) → slice_get hs k ≡ Some h → slice_get zones r ≡ Some z
     → cell_value (slice_get (row_of r (map (zone_column zones) hs)) k) ≡ zone_value h.aggregate h.source z
 cell_is hs zones r k h z there zone =
     cell_told (map (zone_column zones) hs) zones r k h z (zone_column zones h) (slice_get-map (zone_column zones) hs k ∙ ap (option_map (zone_column zones)) there) refl zone

@@ -16,7 +16,7 @@ use Rattle.vortex_prune.specs.Binding.PartBinder.{IsNullOf}
 use Rattle.vortex_prune.specs.Binding.PartFaithful.{literal_is_answer}
 use Rattle.vortex_rewrite.specs.StateTypes.{as_nullable-again, same_stat_type}
 use Rattle.vortex_prune.specs.Zones.{is_zone_row, cell_at, zone_answer, zone_values}
-use Rattle.vortex_zone_map.specs.ZoneMaps.{Head, head, heads, type_or_null, zone_place, zone_type}
+use Rattle.vortex_zone_map.specs.ZoneMaps.{StatColumn, head, heads, type_or_null, zone_place, zone_type}
 use Rattle.vortex_zone_map.proofs.ZoneMaps.HeadPlaces.{place_of, pointwise_at}
 
 -- ---- the answers
@@ -47,7 +47,7 @@ module _ (scope : List Named) (row : List Constant) (zone : is_zone_row scope ro
   answered f c t r None e h g = absurd cc
   answered f c t r (Some k) e h g =
       let p = place_of scope c.index f c.dtype k e in
-      let cell = pointwise_at (λ (x : Head) (y : Constant). dtype_eq x.dtype y.dtype) (heads scope) row k (head c.index p.0 f) zone p.3 in
+      let cell = pointwise_at (λ (x : StatColumn) (y : Constant). dtype_eq x.dtype y.dtype) (heads scope) row k (head c.index p.0 f) zone p.3 in
       let type : zone_type f p.0.1 ≡ t = typed_zone f p.0.1 t (same_stat_type f p.0.1 c.dtype ((dtype_eq_is_exact (as_nullable p.0.1) (as_nullable c.dtype)).0 p.2) ∙ h) in
       record {
         place = k;

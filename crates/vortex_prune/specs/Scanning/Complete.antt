@@ -17,7 +17,7 @@ use Rattle.vortex_prune.specs.Zones.{zones_of}
 use Rattle.vortex_rewrite.specs.Rewriting.Proof.{proves}
 use Rattle.vortex_rewrite.specs.Rewriting.Falsifiers.{falsifier}
 use Rattle.vortex_prune.specs.Scanning.Selection.{Answered, proves_of, skipped_parts}
-use Rattle.vortex_rewrite.specs.Rewriting.ReadOnce.{Box, IsInOrder, IsSatisfiable, columns_of, is_apart}
+use Rattle.vortex_rewrite.specs.Rewriting.ReadOnce.{Box, IsInOrder, IsSatisfiable, columns_of, has_disjoint_ands}
 
 -- ---- the boxes of parts
 
@@ -39,14 +39,14 @@ IsBoxOf part p box = IsBoxIn part.stats p box
 abbrev pub FalsifiersAreComplete : Type 0
 FalsifiersAreComplete =
     (p : Tree Place) (t : DType) (scope : List Named) (zone : ZoneData) (box : Box) → type_of p ≡ Ok t → IsTrue (is_bool t) → IsZone scope zone → IsTrue (fits_scope p scope) →
-    IsTrue (is_apart p) → IsBoxIn zone.stats p box → IsInOrder p box →
+    IsTrue (has_disjoint_ands p) → IsBoxIn zone.stats p box → IsInOrder p box →
     (e : Tree Place) × (falsifier [] p ≡ Some e) × (IsTrue (proves e (told_values scope zone) zone.rows) ↔ ¬ IsSatisfiable p box zone.rows)
 
 -- so a zone is skipped under a predicate whose ANDs are apart exactly if no choice within its box satisfies the predicate
 abbrev pub SkippingIsComplete : Type 0
 SkippingIsComplete =
     (p : Tree Place) (t : DType) (scope : List Named) (zone : ZoneData) (box : Box) → type_of p ≡ Ok t → IsTrue (is_bool t) → IsZone scope zone → IsTrue (fits_scope p scope) →
-    IsTrue (is_apart p) → IsBoxIn zone.stats p box → IsInOrder p box →
+    IsTrue (has_disjoint_ands p) → IsBoxIn zone.stats p box → IsInOrder p box →
     IsTrue (proves_of (falsifier [] p) zone.rows (told_values scope zone)) ↔ ¬ IsSatisfiable p box zone.rows
 
 -- the parts, each with the answers of its own statistics
@@ -57,7 +57,7 @@ by_own_statistics parts = map (λ part. (part, part_values part)) parts
 abbrev pub ScansSkipExactly : Type 0
 ScansSkipExactly =
     (p : Tree Place) (t : DType) (parts : List PartData) (i : ℕ) (part : PartData) (box : Box) → type_of p ≡ Ok t → IsTrue (is_bool t) →
-    slice_get parts i ≡ Some part → IsPart part → IsTrue (fits_scope p part.chunk.scope) → IsTrue (is_apart p) → IsBoxOf part p box → IsInOrder p box →
+    slice_get parts i ≡ Some part → IsPart part → IsTrue (fits_scope p part.chunk.scope) → IsTrue (has_disjoint_ands p) → IsBoxOf part p box → IsInOrder p box →
     Contains (skipped_parts (falsifier [] p) (by_own_statistics parts)) i ↔ ¬ IsSatisfiable p box (rows_of part.chunk.columns)
 
 -- the skipped zones are those for which no choice within the box satisfies the predicate, wherever the box is known and in order

@@ -5,7 +5,7 @@ use Rattle.vortex_base.specs.declared.scalar_value.ScalarValue.TheVariants as va
 use Rattle.vortex_expr.specs.declared.like.LikeOptions.{LikeOptions}
 use Rattle.vortex_expr.specs.declared.scalar_fn.Operator.{Operator}
 use Rattle.vortex_expr.specs.declared.scalar_fn.Operator.TheVariants as operator
-use Rattle.vortex_base.specs.Data.Cells.{value_of}
+use Rattle.vortex_base.specs.Data.ArrayData.{value_of}
 use Rattle.vortex_base.specs.Data.Columns.{ColumnData, row_of, value_at}
 use Rattle.vortex_base.specs.Data.Scalars.{Constant}
 use Rattle.vortex_expr.specs.Meanings.Meaning.{compared, is_true, liked, meaning, satisfies, truth_value}

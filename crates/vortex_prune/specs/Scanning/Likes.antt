@@ -1,7 +1,7 @@
 -- Patterns of LIKE with case regarded, as literal characters at the front and what follows them, and which optional texts pass.
 use Rattle.std.specs.Prelude.{ℕ, Bool, false, not as not_b, List, [], ◌∷◌, ◌++◌, Option, Some, None, map, if◌then◌else◌, slice_get}
 use Rattle.std.specs.Str.{chars}
-use Rattle.vortex_base.specs.Data.Blobs.{blob_at}
+use Rattle.vortex_base.specs.Data.VarBinArray.{blob_at}
 use Rattle.vortex_expr.specs.Patterns.Like.{items, like, matches}
 use Rattle.vortex_expr.specs.declared.like.Item.{Item}
 use Rattle.vortex_expr.specs.declared.like.Item.TheVariants.{Char, AnyRun}

@@ -7,7 +7,7 @@ use Rattle.vortex_prune.specs.Part.{IsPartOf, IsTruePart, PartData}
 use Rattle.vortex_zone_map.specs.Zone.{ZoneData}
 use Rattle.vortex_prune.specs.Scanning.RangeScans.{IsRange}
 use Rattle.vortex_prune.specs.Scanning.ZoneScans.{EachSatisfies}
-use Rattle.vortex_zone_map.specs.ZoneMaps.{Head, IsMapOf, MapData, heads}
+use Rattle.vortex_zone_map.specs.ZoneMaps.{StatColumn, IsMapOf, MapData, heads}
 use Rattle.vortex_rewrite.specs.Facts.{IsFact}
 
 -- what stands in the row at a place r of the table, in its column at a place i
@@ -19,7 +19,7 @@ pub record IsTrueRow (m : MapData) (r : ℕ) (k : ChunkData) : Type 0 where
   pub is_chunk : IsChunk k
   pub scoped : k.scope ≡ m.scope
   pub counted : slice_get m.rows r ≡ Some (rows_of k.columns)
-  pub facts : (i : ℕ) (h : Head) (c : ColumnData) → slice_get (heads m.scope) i ≡ Some h → slice_get k.columns h.source ≡ Some c → IsFact h.aggregate (value_in m r i) c.values (Some c.size)
+  pub facts : (i : ℕ) (h : StatColumn) (c : ColumnData) → slice_get (heads m.scope) i ≡ Some h → slice_get k.columns h.source ≡ Some c → IsFact h.aggregate (value_in m r i) c.values (Some c.size)
 
 -- whatever rows stand in a zone among these, if its row of the table is true of them: each satisfies the predicate, or each doesn't
 abbrev pub EachRowOf : Bool → Tree Place → MapData → (places : List ℕ) → Type 0

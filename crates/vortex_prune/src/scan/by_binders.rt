@@ -23,7 +23,7 @@ use vortex_base::row::Row;
 use vortex_base::scalar_value::ScalarValue;
 use vortex_expr::bound_expression::BoundExpression;
 use vortex_expr::evaluate::evaluate;
-use vortex_rewrite::built::built;
+use vortex_rewrite::built::expect_memory_only;
 use vortex_stats::error::StatsError;
 
 // Whether a value is true. False, null and a value of another kind aren't.
@@ -40,7 +40,7 @@ fn is_true_on(bound: &BoundExpression, row: &Row<'_>, rows: u64) -> Result<bool,
     ensures value { IfOk result (λ b. b ≡ value_is_true (meaning bound.now row.now rows)) }
     ensures memory { IfErr result (λ f. f ≡ Memory alloc_error) }
 {
-    let value = built(evaluate(bound, row, rows))?;
+    let value = expect_memory_only(evaluate(bound, row, rows))?;
     Ok(is_true(&value))
 }
 

@@ -1,6 +1,6 @@
 //! Marks that are taken away by the values of one column, a truth a row.
 ghost use Rattle.std.specs.Prelude.{◌≡◌, ◌+◌, ◌<◌, ◌≤◌, ◌^◌, ◌&&◌, None, false, length, map, not, option_map, replicate, slice_index_or};
-ghost use Rattle.vortex_base.specs.Data.Natives.{optionals};
+ghost use Rattle.vortex_base.specs.Data.PrimitiveArray.{optionals};
 ghost use Rattle.vortex_base.specs.declared.scalar_value.ScalarValue.TheVariants as value;
 ghost use Rattle.vortex_prune.specs.Scanning.Leaves.{compares_at, is_between_at, lies_at, passes_at};
 ghost use Rattle.vortex_prune.specs.Scanning.Marks.{marked};
@@ -9,12 +9,12 @@ use crate::scan::comparison::{Above, AtLeast, AtMost, Below, Comparison, match_e
 use crate::scan::leaf::{Ends, Test, passes};
 use crate::scan::like::keep_like;
 use crate::scan::strings::{Strings, keep_strings};
-use vortex_base::cells::Cells;
+use vortex_base::array_data::ArrayData;
 use vortex_base::column::Column;
 use vortex_base::match_each_native;
 use vortex_base::native::Native;
-use vortex_base::natives::Natives;
-use vortex_base::texts::Texts;
+use vortex_base::primitive_array::PrimitiveArray;
+use vortex_base::utf8_array::Utf8Array;
 use vortex_expr::scalar_fn::Operator;
 
 // Whether a value that may be there compares so with another.
@@ -126,7 +126,7 @@ fn keep_values(column: &Column, test: Test<'_>, from: usize, marks: &mut [bool])
 // Keeps the rows that pass of a column whose values are truths or numbers of one type.
 fn keep_typed<T: Native>(
     column: &Column,
-    natives: &Natives<T>,
+    natives: &PrimitiveArray<T>,
     test: Test<'_>,
     from: usize,
     marks: &mut [bool],
@@ -171,7 +171,7 @@ fn keep_lent<S: Strings>(
 }
 
 // Keeps the rows that pass of a column of texts.
-fn keep_texts(column: &Column, texts: &Texts, test: Test<'_>, from: usize, marks: &mut [bool])
+fn keep_texts(column: &Column, texts: &Utf8Array, test: Test<'_>, from: usize, marks: &mut [bool])
     requires room { from + length marks.old < 2 ^ 64 }
     requires same { column.now.values ≡ map (option_map value.Utf8) texts.now }
     ensures { marks.new ≡ marked (passes_at test.entry column.now.values) from marks.old }
@@ -189,9 +189,9 @@ pub(crate) fn keep_passing(column: &Column, test: Test<'_>, from: usize, marks: 
 {
     match_each_native!(column.cells(),
         natives => keep_typed(column, natives, test, from, marks),
-        Cells::Nulls(nulls) => keep_at_nulls(test, nulls.count(), from, marks),
-        Cells::Texts(texts) => keep_texts(column, texts, test, from, marks),
-        Cells::Binary(blobs) => keep_lent(column, blobs, test, from, marks),
+        ArrayData::Nulls(nulls) => keep_at_nulls(test, nulls.count(), from, marks),
+        ArrayData::Utf8(texts) => keep_texts(column, texts, test, from, marks),
+        ArrayData::Binary(blobs) => keep_lent(column, blobs, test, from, marks),
         _ => keep_values(column, test, from, marks))
 }
 
@@ -231,7 +231,7 @@ fn keep_apart(ends: Ends<'_>, from: usize, marks: &mut [bool])
 // Keeps the rows between the ends of a column whose values are truths or numbers of one type.
 fn keep_lying_natives<T: Native>(
     ends: Ends<'_>,
-    natives: &Natives<T>,
+    natives: &PrimitiveArray<T>,
     from: usize,
     marks: &mut [bool],
 )

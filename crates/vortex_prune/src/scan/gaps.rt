@@ -5,7 +5,7 @@ ghost use Rattle.std.specs.Prelude.{◌≡◌, ◌+◌, ◌<◌, ◌^◌, ◌&&�
 ghost use Rattle.std.specs.Prelude.{IsSome, false, length, option_map, true};
 ghost use Rattle.std.specs.List.{All, list_all};
 ghost use Rattle.std.specs.List.Sorted.{IsPermutation};
-ghost use Rattle.vortex_base.specs.Data.Cells.{value_of};
+ghost use Rattle.vortex_base.specs.Data.ArrayData.{value_of};
 ghost use Rattle.vortex_prune.specs.Scanning.Gaps.{AreAlike, AreOrdered, ArePoints, Follows, GoesWith};
 ghost use Rattle.vortex_prune.specs.Scanning.Gaps.{IsAlike, IsBesideEnds, IsBesideSpan, IsGapOf, IsPoint};
 ghost use Rattle.vortex_prune.specs.Scanning.Gaps.{IsPut, IsSure, are_passed_at, flag_tree, gap_passes};

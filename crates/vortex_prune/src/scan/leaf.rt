@@ -1,7 +1,7 @@
 //! Leaves of a predicate that ask something of the values of one column: a comparison with a
 //! literal on either side, LIKE with a literal pattern, IS NULL and IS NOT NULL.
 ghost use Rattle.std.specs.Prelude.{◌≡◌, IfSome, option_map};
-ghost use Rattle.vortex_base.specs.Data.Cells.{value_of};
+ghost use Rattle.vortex_base.specs.Data.ArrayData.{value_of};
 ghost use Rattle.vortex_expr.specs.Meanings.Meaning as spec;
 ghost use Rattle.vortex_prune.specs.Scanning.Leaves.{IsColumnOf, IsComparison, IsLeaf, IsLike, IsValue};
 ghost use Rattle.vortex_prune.specs.Scanning.Leaves.{is_comparison, passes, swapped};

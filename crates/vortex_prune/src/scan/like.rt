@@ -8,11 +8,17 @@ ghost use Rattle.vortex_prune.specs.Scanning.Marks.{marked};
 use crate::scan::pattern::{
     EndTail, InnerTail, NoTail, PatternTail, Rest, Tail, begins_so, read_rest, split_letters,
 };
-use vortex_base::texts::Texts;
+use vortex_base::utf8_array::Utf8Array;
 use vortex_expr::like::LikeOptions;
 
 // Whether a mark stays at a text that may be there, which isn't looked at without a mark.
-fn stays_liked(mark: bool, texts: &Texts, place: usize, options: LikeOptions, pattern: &str) -> bool
+fn stays_liked(
+    mark: bool,
+    texts: &Utf8Array,
+    place: usize,
+    options: LikeOptions,
+    pattern: &str,
+) -> bool
     ensures { result ≡ (mark && is_liked_at options pattern.now texts.now place) }
 {
     if !mark {
@@ -25,7 +31,13 @@ fn stays_liked(mark: bool, texts: &Texts, place: usize, options: LikeOptions, pa
 }
 
 // Takes away the marks, from a place on, at which a text doesn't match a pattern under options.
-fn keep_liked(texts: &Texts, options: LikeOptions, pattern: &str, from: usize, marks: &mut [bool])
+fn keep_liked(
+    texts: &Utf8Array,
+    options: LikeOptions,
+    pattern: &str,
+    from: usize,
+    marks: &mut [bool],
+)
     requires { from + length marks.old < 2 ^ 64 }
     ensures { marks.new ≡ marked (is_liked_at options pattern.now texts.now) from marks.old }
 {
@@ -38,7 +50,7 @@ fn keep_liked(texts: &Texts, options: LikeOptions, pattern: &str, from: usize, m
 #[inline]
 fn stays_begun<T: Tail>(
     mark: bool,
-    texts: &Texts,
+    texts: &Utf8Array,
     place: usize,
     negated: bool,
     front: &str,
@@ -59,7 +71,7 @@ fn stays_begun<T: Tail>(
 // Takes away the marks, from a place on, at which a text doesn't begin so with a rest that matches
 // or, where negated, does.
 fn keep_begun<T: Tail>(
-    texts: &Texts,
+    texts: &Utf8Array,
     negated: bool,
     front: &str,
     tail: &T,
@@ -77,7 +89,7 @@ fn keep_begun<T: Tail>(
 
 // Takes away the marks, from a place on, at which a text doesn't match a pattern, case regarded, or
 // where negated does. The pattern is read once.
-fn keep_read(texts: &Texts, negated: bool, pattern: &str, from: usize, marks: &mut [bool])
+fn keep_read(texts: &Utf8Array, negated: bool, pattern: &str, from: usize, marks: &mut [bool])
     requires { from + length marks.old < 2 ^ 64 }
     ensures { let wanted = items (chars pattern.now) in
         marks.new ≡ marked (passes_items_at negated wanted texts.now) from marks.old }
@@ -93,7 +105,7 @@ fn keep_read(texts: &Texts, negated: bool, pattern: &str, from: usize, marks: &m
 
 /// Takes away the marks, from a place on, at which a text doesn't match a pattern under options.
 pub(crate) fn keep_like(
-    texts: &Texts,
+    texts: &Utf8Array,
     options: LikeOptions,
     pattern: &str,
     from: usize,

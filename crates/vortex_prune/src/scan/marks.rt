@@ -481,7 +481,7 @@ fn zones_of(map: &ZoneMap) -> Table<'_>
 }
 
 // The marks of a block of zones, from a place on, that stay.
-fn block_told(
+fn block_passing(
     alloc: Global,
     map: &ZoneMap,
     bound: &BoundExpression,
@@ -502,7 +502,7 @@ fn block_told(
 }
 
 // The marks of all zones that stay, block by block.
-fn all_told(
+fn all_passing(
     alloc: Global,
     map: &ZoneMap,
     bound: &BoundExpression,
@@ -517,14 +517,14 @@ fn all_told(
     'runs: while told.len() < marks.len() {
         let from = told.len();
         let to = block_end(from, marks.len(), size);
-        let mut block = block_told(alloc, map, bound, from, &marks[from..to])?;
+        let mut block = block_passing(alloc, map, bound, from, &marks[from..to])?;
         told.append(&mut block)?;
     }
     Ok(told)
 }
 
 // The marks of the zones that stay: those of which a bound proof, if there is one, is true.
-pub(crate) fn told(
+pub(crate) fn zones_passing(
     alloc: Global,
     map: &ZoneMap,
     bound: Option<&BoundExpression>,
@@ -535,7 +535,7 @@ pub(crate) fn told(
         told.items ≡ marked (is_told (option_copied bound.entry) map.now) 0 marks.now) }
 {
     match bound {
-        Some(bound) => all_told(alloc, map, bound, marks),
+        Some(bound) => all_passing(alloc, map, bound, marks),
         None => Ok(vec![in alloc; false; marks.len()]?),
     }
 }

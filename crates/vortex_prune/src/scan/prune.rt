@@ -13,7 +13,7 @@ ghost use Rattle.vortex_rewrite.specs.Rewriting.Lawful.{OwnRule};
 ghost use Rattle.vortex_rewrite.specs.Rewriting.Own.{own_rules};
 ghost use Rattle.vortex_rewrite.specs.Rewriting.Predicates.{is_predicate};
 ghost use Rattle.vortex_rewrite.specs.Rewriting.Proof.{is_open};
-ghost use Rattle.vortex_rewrite.specs.Rewriting.ReadOnce.{is_apart};
+ghost use Rattle.vortex_rewrite.specs.Rewriting.ReadOnce.{has_disjoint_ands};
 ghost use Rattle.vortex_zone_map.specs.Zone.{ZoneData};
 ghost use Rattle.vortex_prune.specs.Scanning.Complete.{ZonesSkipExactly};
 ghost use Rattle.vortex_prune.specs.Scanning.Selection.{is_skipped, is_whole, place_if};
@@ -32,7 +32,7 @@ ghost use Rattle.vortex_stats.specs.declared.error.StatsError.TheVariants.{Memor
 
 use crate::bind::bind_stats_of;
 use crate::bind::zone_binder::ZoneBinder;
-use crate::scan::marks::told;
+use crate::scan::marks::zones_passing;
 use crate::scan::verdict::Verdict;
 use std::alloc::{AllocError, Global};
 use vortex_expr::bound_expression::BoundExpression;
@@ -187,10 +187,10 @@ fn verdicts_by(
         (option_copied satisfier.entry) map.now) }
 {
     let all = vec![in alloc; true; map.len()]?;
-    let skipped = told(alloc, map, falsifier, &all)?;
+    let skipped = zones_passing(alloc, map, falsifier, &all)?;
     let bound = bound_rest(alloc, map, satisfier, &skipped)?;
     let others = unmarked(alloc, &skipped)?;
-    let whole = told(alloc, map, bound.as_ref(), &others)?;
+    let whole = zones_passing(alloc, map, bound.as_ref(), &others)?;
     Ok(marked_verdicts(alloc, &skipped, &whole)?)
 }
 
@@ -285,7 +285,8 @@ pub fn prune_by(
     ensures complete { let f = option_copied falsifier.entry in
         IfOk result (λ vs. (zones : List ZoneData) (p : Tree Place) → IsMapOf zones map.now
         → IsTrue (is_predicate p) → IsTrue (fits_scope p map.now.scope) → f ≡ falsifier_of [] p
-        → IsTrue (is_apart p) → ZonesSkipExactly p zones (places_where is_skipped vs.items)) }
+        → IsTrue (has_disjoint_ands p)
+        → ZonesSkipExactly p zones (places_where is_skipped vs.items)) }
     // No falsifier that has a column outside its placeholders was bound.
     ensures closed { let f = option_copied falsifier.entry in
         IfOk result (λ _. is_left_open f map.now.rows ≡ false) }
@@ -461,7 +462,7 @@ pub fn prune(
     // By built-in rules a predicate whose ANDs are apart skips a zone exactly if no values within
     // its bounds satisfy it.
     ensures complete { IfOk result (λ pruned. (zones : List ZoneData) → IsMapOf zones map.now
-        → rules.now.own.items ≡ [] → IsTrue (is_apart predicate.now)
+        → rules.now.own.items ≡ [] → IsTrue (has_disjoint_ands predicate.now)
         → ZonesSkipExactly predicate.now zones pruned.skipped.items) }
     // By built-in rules a predicate is refused for memory alone.
     ensures memory { IsTrue (is_predicate predicate.now) → rules.now.own.items ≡ []

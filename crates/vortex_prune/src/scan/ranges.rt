@@ -6,7 +6,7 @@ ghost use Rattle.vortex_base.specs.Data.Columns.{row_count};
 ghost use Rattle.vortex_expr.specs.Meanings.Fitting.{fits_scope};
 ghost use Rattle.vortex_expr.specs.Trees.Tree.{is_plain};
 ghost use Rattle.vortex_rewrite.specs.Rewriting.Own.{own_rules};
-ghost use Rattle.vortex_rewrite.specs.Rewriting.ReadOnce.{is_apart};
+ghost use Rattle.vortex_rewrite.specs.Rewriting.ReadOnce.{has_disjoint_ands};
 ghost use Rattle.vortex_prune.specs.Part.{IsTruePart, PartData};
 ghost use Rattle.vortex_zone_map.specs.Zone.{ZoneData};
 ghost use Rattle.vortex_prune.specs.Scanning.Complete.{ZonesSkipExactly};
@@ -130,7 +130,7 @@ pub fn scan_ranges_from(
     // By built-in rules a predicate whose ANDs are apart skips a zone exactly if no values within
     // its bounds satisfy it.
     ensures complete { IfOk result (λ scan. (zones : List ZoneData) → IsMapOf zones map.now
-        → rules.now.own.items ≡ [] → IsTrue (is_apart predicate.now)
+        → rules.now.own.items ≡ [] → IsTrue (has_disjoint_ands predicate.now)
         → ZonesSkipExactly predicate.now zones scan.skipped.items) }
     // Which zones are skipped and whole, which rows are selected and how many tested, by any table
     // and by that of zones; and that no open proof was bound.
@@ -192,7 +192,7 @@ pub fn scan_ranges(
     // By built-in rules a predicate whose ANDs are apart skips a zone exactly if no values within
     // its bounds satisfy it.
     ensures complete { IfOk result (λ scan. (zones : List ZoneData) → IsMapOf zones map.now
-        → rules.now.own.items ≡ [] → IsTrue (is_apart predicate.now)
+        → rules.now.own.items ≡ [] → IsTrue (has_disjoint_ands predicate.now)
         → ZonesSkipExactly predicate.now zones scan.skipped.items) }
     // All that `scan_ranges_from` finds from the first row on.
     ensures answered { let own = own_rules StatsRewriteRule-box rules.now.own.items in

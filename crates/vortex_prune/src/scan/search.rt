@@ -14,7 +14,7 @@ use crate::scan::sides::{cell, passes_side};
 use std::alloc::Global;
 use vortex_base::match_each_native;
 use vortex_base::native::Native;
-use vortex_base::natives::Natives;
+use vortex_base::primitive_array::PrimitiveArray;
 use vortex_expr::scalar_fn::Operator;
 
 // Returns the comparison with a gap's own value by which a first value is past the gap.
@@ -126,7 +126,7 @@ fn stays_at<T: Native, C: Comparison>(
     gaps: &[Gap<'_>],
     keys: &[T],
     at_null: bool,
-    natives: &Natives<T>,
+    natives: &PrimitiveArray<T>,
     asked: Columns<'_>,
     place: usize,
 ) -> bool
@@ -145,7 +145,7 @@ fn keep_by_keys<T: Native, C: Comparison>(
     gaps: &[Gap<'_>],
     keys: &[T],
     at_null: bool,
-    natives: &Natives<T>,
+    natives: &PrimitiveArray<T>,
     asked: Columns<'_>,
     from: usize,
     marks: &mut [bool],
@@ -169,7 +169,7 @@ fn keep_natives<T: Native>(
     alloc: Global,
     gaps: &[Gap<'_>],
     first: &Gap<'_>,
-    natives: &Natives<T>,
+    natives: &PrimitiveArray<T>,
     asked: Columns<'_>,
     from: usize,
     marks: &mut [bool],

@@ -1,6 +1,6 @@
 //! Comparisons of a column with a literal, and columns of truths, as sides of an AND or OR.
 ghost use Rattle.std.specs.Prelude.{◌≡◌, IfSome, IsTrue, option_map, slice_get, true};
-ghost use Rattle.vortex_base.specs.Data.Cells.{value_of};
+ghost use Rattle.vortex_base.specs.Data.ArrayData.{value_of};
 ghost use Rattle.vortex_base.specs.Data.Columns.{value_at};
 ghost use Rattle.vortex_expr.specs.Meanings.Meaning.{is_true};
 ghost use Rattle.vortex_prune.specs.Scanning.Gaps.{Covers, IsBeside, IsFlagOf, IsSideOf};

@@ -5,16 +5,16 @@ ghost use Rattle.vortex_prune.specs.Scanning.Marks.{marked};
 
 use crate::scan::comparison::{Comparison, match_each_comparison};
 use std::cmp::Ordering;
-use vortex_base::blobs::Blobs;
-use vortex_base::texts::Texts;
+use vortex_base::utf8_array::Utf8Array;
 use vortex_base::value_ref::ValueRef;
+use vortex_base::var_bin_array::VarBinArray;
 use vortex_expr::scalar_fn::Operator;
 
 /// Optional texts or byte strings in order.
 pub(crate) trait Strings {
     ghost use Rattle.std.specs.Prelude.{◌≡◌, ℕ, IfSome, List, Option, option_map, slice_get};
-    ghost use Rattle.vortex_base.specs.Data.Blobs.{blob_at};
-    ghost use Rattle.vortex_base.specs.Data.Cells.{value_of};
+    ghost use Rattle.vortex_base.specs.Data.VarBinArray.{blob_at};
+    ghost use Rattle.vortex_base.specs.Data.ArrayData.{value_of};
     ghost use Rattle.vortex_base.specs.Data.Values.{value_cmp};
     ghost use Rattle.vortex_base.specs.declared.scalar_value.ScalarValue.{ScalarValue};
 
@@ -33,7 +33,7 @@ pub(crate) trait Strings {
         ensures { IfSome result (λ bytes. scalar bytes.now ≡ value_of value.entry) };
 }
 
-impl Strings for Texts {
+impl Strings for Utf8Array {
     ghost use Rattle.vortex_base.specs.declared.scalar_value.ScalarValue.TheVariants as value;
 
     ghost scalar = { value.Utf8 };
@@ -57,7 +57,7 @@ impl Strings for Texts {
     }
 }
 
-impl Strings for Blobs {
+impl Strings for VarBinArray {
     ghost use Rattle.vortex_base.specs.declared.scalar_value.ScalarValue.TheVariants as value;
 
     ghost scalar = { value.Binary };

@@ -4,7 +4,7 @@ ghost use Rattle.std.specs.Prelude.{alloc_error, length};
 ghost use Rattle.std.specs.List.{AllByRecursion};
 ghost use Rattle.vortex_expr.specs.Meanings.Fitting.{fits_scope};
 ghost use Rattle.vortex_expr.specs.Trees.Tree.{Place, Tree, is_plain};
-ghost use Rattle.vortex_rewrite.specs.Rewriting.ReadOnce.{is_apart};
+ghost use Rattle.vortex_rewrite.specs.Rewriting.ReadOnce.{has_disjoint_ands};
 ghost use Rattle.vortex_prune.specs.Scanning.Complete.{SkipsExactly};
 ghost use Rattle.vortex_rewrite.specs.Rewriting.Own.{own_rules};
 ghost use Rattle.vortex_prune.specs.Part.{AreParts, IsTruePart};
@@ -134,7 +134,7 @@ pub fn scan_zones<'a>(
     // By built-in rules a predicate whose ANDs are apart skips a part exactly if no values within
     // its bounds satisfy it.
     ensures complete { IfOk result (λ scan. rules.now.own.items ≡ []
-        → IsTrue (is_apart predicate.now)
+        → IsTrue (has_disjoint_ands predicate.now)
         → SkipsExactly predicate.now zones.now.parts scan.skipped.items) }
     // Which parts are skipped and whole, which rows are selected and how many tested, as in that
     // scan; and that no open proof was bound.

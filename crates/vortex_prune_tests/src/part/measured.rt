@@ -26,13 +26,13 @@ fn measured(alloc: Global, chunk: Result<Chunk, StatsError>) -> Made {
 }
 
 // The greatest value, a null and the least value.
-fn around_null(alloc: Global, least: Value, greatest: Value) -> Result<Cells, AllocError> {
+fn around_null(alloc: Global, least: Value, greatest: Value) -> Result<ArrayData, AllocError> {
     let mut values = one_value(alloc, greatest?)?;
     push_null_and(&mut values, least)?;
     Ok(values)
 }
 
-fn push_null_and(values: &mut Cells, last: Value) -> Result<(), AllocError> {
+fn push_null_and(values: &mut ArrayData, last: Value) -> Result<(), AllocError> {
     values.push(None)?;
     values.push(last?)?;
     Ok(())

@@ -1,7 +1,7 @@
 //! Long parts, whose rows are tested a column at a time and block by block: the scan selects what
 //! each row says by itself.
 use super::*;
-use vortex_base::{Cells, Column, ScalarValue};
+use vortex_base::{ArrayData, Column, ScalarValue};
 use vortex_expr::BoundExpression;
 use vortex_prune::Scan;
 
@@ -24,16 +24,16 @@ fn text_at(alloc: Global, row: usize) -> Result<Option<ScalarValue>, AllocError>
     }
 }
 
-fn number_cells(alloc: Global, rows: usize) -> Result<Cells, AllocError> {
-    let mut cells = Cells::new(alloc, I32_OR_NULL);
+fn number_cells(alloc: Global, rows: usize) -> Result<ArrayData, AllocError> {
+    let mut cells = ArrayData::new(alloc, I32_OR_NULL);
     for row in 0..rows {
         cells.push(number_at(row))?;
     }
     Ok(cells)
 }
 
-fn text_cells(alloc: Global, rows: usize) -> Result<Cells, AllocError> {
-    let mut cells = Cells::new(alloc, TEXT);
+fn text_cells(alloc: Global, rows: usize) -> Result<ArrayData, AllocError> {
+    let mut cells = ArrayData::new(alloc, TEXT);
     for row in 0..rows {
         cells.push(text_at(alloc, row)?)?;
     }

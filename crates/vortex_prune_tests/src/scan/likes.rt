@@ -2,7 +2,7 @@
 //! whatever the pattern's shape.
 use super::blocks::scans_as_alone;
 use super::*;
-use vortex_base::{Cells, Chunk, Column, ScalarValue};
+use vortex_base::{ArrayData, Chunk, Column, ScalarValue};
 use vortex_expr::LikeOptions;
 
 // Texts of one and of several bytes a character, in either case, with signs among them.
@@ -50,8 +50,8 @@ fn text_at(alloc: Global, row: usize) -> Result<Option<ScalarValue>, AllocError>
     }
 }
 
-fn cells(alloc: Global) -> Result<Cells, AllocError> {
-    let mut cells = Cells::new(alloc, TEXT);
+fn cells(alloc: Global) -> Result<ArrayData, AllocError> {
+    let mut cells = ArrayData::new(alloc, TEXT);
     for row in 0..TEXTS.len() {
         cells.push(text_at(alloc, row)?)?;
     }

@@ -2,7 +2,7 @@
 //! at the ends of blocks and between: a scan selects what each row says by itself.
 use super::blocks::scans_as_alone;
 use super::*;
-use vortex_base::{Bytes, Cells, Column, PType, PValue, ScalarValue};
+use vortex_base::{ArrayData, Bytes, Column, PType, PValue, ScalarValue};
 use vortex_expr::Operator;
 
 const ROWS: usize = 2_049;
@@ -107,7 +107,7 @@ fn value_at(alloc: Global, dtype: DType, row: usize) -> Result<Option<ScalarValu
 }
 
 fn column(alloc: Global, dtype: DType) -> Result<Column, StatsError> {
-    let mut cells = Cells::new(alloc, dtype);
+    let mut cells = ArrayData::new(alloc, dtype);
     for row in 0..ROWS {
         cells.push(value_at(alloc, dtype, row)?)?;
     }

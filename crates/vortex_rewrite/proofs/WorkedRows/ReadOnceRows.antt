@@ -16,7 +16,7 @@ use Rattle.vortex_base.specs.Data.Scalars.{Constant}
 use Rattle.vortex_base.specs.Data.Values.{is_value, value_cmp}
 use Rattle.vortex_expr.specs.Trees.Tree.{Tree, Place, column, literal, binary, between}
 use Rattle.vortex_stats.specs.Bounds.Order.{AtMost}
-use Rattle.vortex_rewrite.specs.Rewriting.ReadOnce.{Box, IsInOrder, IsSatisfiable, IsWithin, are_apart, is_apart, is_read_once}
+use Rattle.vortex_rewrite.specs.Rewriting.ReadOnce.{Box, IsInOrder, IsSatisfiable, IsWithin, are_apart, has_disjoint_ands, is_read_once}
 use mathlib.Core.Bool.{true≢false}
 
 abbrev column_at : ℕ → DType → Tree Place
@@ -122,38 +122,38 @@ other_type = refl
 
 -- ---- the sides of an AND, and those of an OR
 
-or_shares : is_apart (binary Or (range byte_type closed (byte 3) (byte 9)) (above 0 20)) ≡ true
+or_shares : has_disjoint_ands (binary Or (range byte_type closed (byte 3) (byte 9)) (above 0 20)) ≡ true
 or_shares = refl
 
-and_shares : is_apart (binary And (range byte_type closed (byte 3) (byte 9)) (above 0 20)) ≡ false
+and_shares : has_disjoint_ands (binary And (range byte_type closed (byte 3) (byte 9)) (above 0 20)) ≡ false
 and_shares = refl
 
 -- the OR's two sides share the second column with one another, not with the AND's other side
-or_within_and : is_apart (binary And (above 0 1) (binary Or (above 1 2) (above 1 3))) ≡ true
+or_within_and : has_disjoint_ands (binary And (above 0 1) (binary Or (above 1 2) (above 1 3))) ≡ true
 or_within_and = refl
 
-deep_in_the_right : is_apart (binary And (above 0 1) (binary Or (above 1 2) (above 0 3))) ≡ false
+deep_in_the_right : has_disjoint_ands (binary And (above 0 1) (binary Or (above 1 2) (above 0 3))) ≡ false
 deep_in_the_right = refl
 
-deep_in_the_left : is_apart (binary And (binary Or (above 1 2) (above 0 3)) (above 0 1)) ≡ false
+deep_in_the_left : has_disjoint_ands (binary And (binary Or (above 1 2) (above 0 3)) (above 0 1)) ≡ false
 deep_in_the_left = refl
 
 -- an AND on either side of an OR
-and_left_of_or : is_apart (binary Or (binary And (above 0 1) (above 0 3)) (above 1 2)) ≡ false
+and_left_of_or : has_disjoint_ands (binary Or (binary And (above 0 1) (above 0 3)) (above 1 2)) ≡ false
 and_left_of_or = refl
 
-and_right_of_or : is_apart (binary Or (above 1 2) (binary And (above 0 1) (above 0 3))) ≡ false
+and_right_of_or : has_disjoint_ands (binary Or (above 1 2) (binary And (above 0 1) (above 0 3))) ≡ false
 and_right_of_or = refl
 
-ands_of_one_or : is_apart (binary Or (binary And (above 0 1) (above 1 2)) (binary And (above 0 3) (above 1 4))) ≡ true
+ands_of_one_or : has_disjoint_ands (binary Or (binary And (above 0 1) (above 1 2)) (binary And (above 0 3) (above 1 4))) ≡ true
 ands_of_one_or = refl
 
 -- a comparison has a column once
-twice_in_a_leaf : is_apart (binary Gt (column_at 0 byte_type) (column_at 0 byte_type)) ≡ false
+twice_in_a_leaf : has_disjoint_ands (binary Gt (column_at 0 byte_type) (column_at 0 byte_type)) ≡ false
 twice_in_a_leaf = refl
 
 -- and what isn't simple isn't so
-not_simple : is_apart (column_at 0 (dtype.Bool Nullable)) ≡ false
+not_simple : has_disjoint_ands (column_at 0 (dtype.Bool Nullable)) ≡ false
 not_simple = refl
 
 second_apart : are_apart ((record { index = 0; dtype = byte_type }) ∷ (record { index = 1; dtype = byte_type }) ∷ []) ((record { index = 2; dtype = byte_type }) ∷ (record { index = 1; dtype = byte_type }) ∷ []) ≡ false

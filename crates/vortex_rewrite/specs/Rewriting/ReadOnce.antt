@@ -106,8 +106,8 @@ abbrev pub are_sides_apart : Tree Place → Bool
 are_sides_apart (binary o l r) = is_binary_apart o (columns_of l) (columns_of r) (are_sides_apart l && are_sides_apart r)
 are_sides_apart e = are_distinct (columns_of e)
 
-abbrev pub is_apart : Tree Place → Bool
-is_apart p = is_simple p && are_sides_apart p
+abbrev pub has_disjoint_ands : Tree Place → Bool
+has_disjoint_ands p = is_simple p && are_sides_apart p
 
 -- ---- boxes
 

@@ -7,7 +7,7 @@ ghost use Rattle.vortex_rewrite.specs.Rewriting.Predicates.{is_text};
 ghost use Rattle.vortex_rewrite.specs.Rewriting.Falsifiers.{bytes_literal, count_literal as count_literal_of, null_count_of};
 ghost use Rattle.vortex_rewrite.specs.Answers.{IsMemory, Makes};
 
-use crate::built::{built, cloned};
+use crate::built::{cloned, expect_memory_only};
 use std::alloc::Global;
 use vortex_base::aggregate::AggregateFnRef;
 use vortex_base::dtype::DType;
@@ -29,7 +29,7 @@ pub(crate) fn literal(
     ensures { Makes (tree.literal (record { dtype = dtype; value = Some value })) result }
 {
     match Scalar::try_new(dtype, Some(value)) {
-        Ok(scalar) => built(bound::lit(alloc, scalar)),
+        Ok(scalar) => expect_memory_only(bound::lit(alloc, scalar)),
         Err(_) => unreachable!(),
     }
 }
@@ -67,7 +67,7 @@ pub(crate) fn stat(
     ensures { Makes (tree.stat aggregate x.now) result }
 {
     let input = cloned(x)?;
-    built(bound::new_stat(alloc, input, aggregate))
+    expect_memory_only(bound::new_stat(alloc, input, aggregate))
 }
 
 // The number of an operand's nulls, which of a literal is known.
@@ -85,5 +85,5 @@ pub(crate) fn null_count(alloc: Global, x: &BoundExpression) -> Result<BoundExpr
 pub(crate) fn row_count(alloc: Global) -> Result<BoundExpression, StatsError>
     ensures { Makes tree.row_count result }
 {
-    built(bound::row_count(alloc))
+    expect_memory_only(bound::row_count(alloc))
 }

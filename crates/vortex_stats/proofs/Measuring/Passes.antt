@@ -18,9 +18,9 @@ use Rattle.vortex_base.specs.declared.pvalue.PValue.{PValue}
 use Rattle.vortex_base.specs.declared.pvalue.PValue.TheVariants as number
 use Rattle.vortex_base.specs.declared.scalar_value.ScalarValue.{ScalarValue}
 use Rattle.vortex_base.specs.declared.scalar_value.ScalarValue.TheVariants as value
-use Rattle.vortex_base.specs.Data.Blobs.{blob_at}
-use Rattle.vortex_base.specs.Data.Cells.{text_value}
-use Rattle.vortex_base.specs.Data.Natives.{native_at}
+use Rattle.vortex_base.specs.Data.VarBinArray.{blob_at}
+use Rattle.vortex_base.specs.Data.ArrayData.{text_value}
+use Rattle.vortex_base.specs.Data.PrimitiveArray.{native_at}
 use Rattle.vortex_base.specs.Data.Columns.{all_fit}
 use Rattle.vortex_base.specs.Data.Scalars.{is_optional_value}
 use Rattle.vortex_base.specs.Data.Types.{ptype_index}

@@ -2,7 +2,7 @@
 ghost use Rattle.std.specs.Prelude.{◌≡◌, option_map};
 ghost use Rattle.std.specs.List.{list_all};
 ghost use Rattle.vortex_base.specs.declared.scalar_value.ScalarValue.TheVariants as scalar;
-ghost use Rattle.vortex_base.specs.Data.Cells.{value_of};
+ghost use Rattle.vortex_base.specs.Data.ArrayData.{value_of};
 ghost use Rattle.vortex_stats.specs.Measuring.Checks as check;
 ghost use Rattle.vortex_stats.specs.Measuring.Measures.{AreMeasuresOf};
 ghost use Rattle.vortex_stats.specs.Precision.{precision_map};

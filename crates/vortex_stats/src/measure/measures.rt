@@ -1,6 +1,6 @@
 //! Measures of a pass over the values of a column, and the values of statistics that follow of it.
 ghost use Rattle.std.specs.Prelude.{◌≡◌, IfOk, IsTrue, OnErr, OnOk, option_map};
-ghost use Rattle.vortex_base.specs.Data.Cells.{value_of};
+ghost use Rattle.vortex_base.specs.Data.ArrayData.{value_of};
 ghost use Rattle.vortex_base.specs.Data.Scalars.{is_long};
 ghost use Rattle.vortex_stats.specs.Measuring.Measured.{measured_value};
 ghost use Rattle.vortex_stats.specs.Measuring.Measures.{AreMeasuresOf, IsWithin, found};

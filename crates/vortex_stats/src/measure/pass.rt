@@ -6,7 +6,7 @@ ghost use Rattle.vortex_base.specs.declared.dtype.DType.TheVariants as types;
 ghost use Rattle.vortex_base.specs.declared.types.Nullability.TheVariants.{Nullable};
 ghost use Rattle.vortex_base.specs.declared.types.PType.TheVariants as ptypes;
 ghost use Rattle.vortex_base.specs.declared.scalar_value.ScalarValue.TheVariants as value;
-ghost use Rattle.vortex_base.specs.Data.Cells.{text_value, value_of};
+ghost use Rattle.vortex_base.specs.Data.ArrayData.{text_value, value_of};
 ghost use Rattle.vortex_base.specs.Data.Columns.{IsColumn, all_fit};
 ghost use Rattle.vortex_stats.specs.Measuring.Keys.{bytes_of as value_bytes, family_of as type_family, signed_number, text_of as value_text, unsigned_number};
 ghost use Rattle.vortex_stats.specs.Measuring.Measured.{number_in};
@@ -18,14 +18,14 @@ ghost use Rattle.vortex_stats.specs.declared.measure.pass.Family.TheVariants as 
 
 use crate::measure::measures::Measures;
 use crate::measure::tally::Tally;
-use vortex_base::cells::Cells;
+use vortex_base::array_data::ArrayData;
 use vortex_base::column::Column;
 use vortex_base::dtype::DType;
 use vortex_base::native::Native;
-use vortex_base::natives::Natives;
+use vortex_base::primitive_array::PrimitiveArray;
 use vortex_base::pvalue::PValue;
-use vortex_base::texts::Texts;
 use vortex_base::types::PType;
+use vortex_base::utf8_array::Utf8Array;
 use vortex_base::value_ref::ValueRef;
 
 // By what the values of a type are compared.
@@ -150,7 +150,7 @@ fn unsigned_sum(sum: u128) -> Option<PValue>
 }
 
 // The measures of signed numbers that are kept as their type.
-fn signed_natives<T: Native>(natives: &Natives<T>, dtype: DType) -> Measures
+fn signed_natives<T: Native>(natives: &PrimitiveArray<T>, dtype: DType) -> Measures
     requires signed { type_family dtype ≡ families.Signed }
     requires fits { IsTrue (all_fit dtype (map (option_map T.scalar) natives.now)) }
     ensures { AreMeasuresOf result dtype (map (option_map T.scalar) natives.now) }
@@ -184,7 +184,7 @@ fn signed_values(column: &Column) -> Measures
 }
 
 // The measures of unsigned numbers and truths that are kept as their type.
-fn unsigned_natives<T: Native>(natives: &Natives<T>, dtype: DType) -> Measures
+fn unsigned_natives<T: Native>(natives: &PrimitiveArray<T>, dtype: DType) -> Measures
     requires unsigned { type_family dtype ≡ families.Unsigned }
     requires fits { IsTrue (all_fit dtype (map (option_map T.scalar) natives.now)) }
     ensures { AreMeasuresOf result dtype (map (option_map T.scalar) natives.now) }
@@ -218,7 +218,7 @@ fn unsigned_values(column: &Column) -> Measures
 }
 
 // The measures of texts that are kept as such.
-fn texts(texts: &Texts, dtype: DType) -> Measures
+fn texts(texts: &Utf8Array, dtype: DType) -> Measures
     requires texts { type_family dtype ≡ families.Texts }
     requires fits { IsTrue (all_fit dtype (map text_value texts.now)) }
     ensures { AreMeasuresOf result dtype (map text_value texts.now) }
@@ -283,10 +283,10 @@ fn signed(column: &Column) -> Measures
 {
     let dtype = column.dtype();
     match column.cells() {
-        Cells::I64(natives) => signed_natives(natives, dtype),
-        Cells::I32(natives) => signed_natives(natives, dtype),
-        Cells::I16(natives) => signed_natives(natives, dtype),
-        Cells::I8(natives) => signed_natives(natives, dtype),
+        ArrayData::I64(natives) => signed_natives(natives, dtype),
+        ArrayData::I32(natives) => signed_natives(natives, dtype),
+        ArrayData::I16(natives) => signed_natives(natives, dtype),
+        ArrayData::I8(natives) => signed_natives(natives, dtype),
         _ => signed_values(column),
     }
 }
@@ -299,11 +299,11 @@ fn unsigned(column: &Column) -> Measures
 {
     let dtype = column.dtype();
     match column.cells() {
-        Cells::U64(natives) => unsigned_natives(natives, dtype),
-        Cells::U32(natives) => unsigned_natives(natives, dtype),
-        Cells::U16(natives) => unsigned_natives(natives, dtype),
-        Cells::U8(natives) => unsigned_natives(natives, dtype),
-        Cells::Bool(natives) => unsigned_natives(natives, dtype),
+        ArrayData::U64(natives) => unsigned_natives(natives, dtype),
+        ArrayData::U32(natives) => unsigned_natives(natives, dtype),
+        ArrayData::U16(natives) => unsigned_natives(natives, dtype),
+        ArrayData::U8(natives) => unsigned_natives(natives, dtype),
+        ArrayData::Bool(natives) => unsigned_natives(natives, dtype),
         _ => unsigned_values(column),
     }
 }
@@ -316,7 +316,7 @@ fn of_texts(column: &Column) -> Measures
 {
     let dtype = column.dtype();
     match column.cells() {
-        Cells::Texts(list) => texts(list, dtype),
+        ArrayData::Utf8(list) => texts(list, dtype),
         _ => text_values(column),
     }
 }

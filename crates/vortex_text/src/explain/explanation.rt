@@ -203,10 +203,11 @@ fn push_parts(
 }
 
 /// Explains a scan of parts by the built-in rules, as lines of text: the predicate with its
-/// falsifier and its satisfier, its normal form with those of it, and for each part, of which the map
-/// has the statistics, whether it is skipped, whole or tested, with what the proofs of each leaf of the predicate say by its
-/// statistics: true, false, or null for want of the statistics that are named. Of more than 50 parts
-/// a strip of signs tells what becomes of them, and the ten tested ones with the most rows are told.
+/// falsifier and its satisfier, its normal form with those of it, and for each part, of which the
+/// map has the statistics, whether it is skipped, whole or tested, with what the proofs of each leaf
+/// of the predicate say by its statistics: true, false, or null for want of the statistics that are
+/// named. Of more than 50 parts a strip of signs tells what becomes of them, and the ten tested ones
+/// with the most rows are told.
 ///
 /// `NotPredicate` if the predicate isn't of type Bool, else `Memory` alone.
 pub fn explain(

@@ -11,7 +11,7 @@ use vortex_expr::bound_expression::parts::Parts;
 use vortex_expr::evaluate::evaluate;
 use vortex_prune::bind::bind_stats;
 use vortex_prune::bind::zone_binder::ZoneBinder;
-use vortex_rewrite::built::built;
+use vortex_rewrite::built::expect_memory_only;
 use vortex_rewrite::expr::bound::{all_null, null_count};
 use vortex_rewrite::rewrite::rules::Rules;
 use vortex_rewrite::rewrite::{falsify, satisfy};
@@ -60,7 +60,7 @@ fn value_of(
     if part.place >= table.rows() || part.place >= part.map.len() {
         return Ok(None);
     }
-    let kept = built(proof.try_clone())?;
+    let kept = expect_memory_only(proof.try_clone())?;
     let bound = bind_stats(alloc, kept, &ZoneBinder::new(part.map))?;
     match evaluate(&bound, &table.row(part.place), part.map.rows(part.place)) {
         Ok(value) => Ok(value),
@@ -123,8 +123,8 @@ fn has_inexact_count(
     input: &BoundExpression,
     part: PartAt<'_>,
 ) -> Result<bool, StatsError> {
-    let all_null = all_null(alloc, built(input.try_clone())?)?;
-    let count = null_count(alloc, built(input.try_clone())?)?;
+    let all_null = all_null(alloc, expect_memory_only(input.try_clone())?)?;
+    let count = null_count(alloc, expect_memory_only(input.try_clone())?)?;
     Ok(told(alloc, &all_null, part)? == Some(false) && value_of(alloc, &count, part)?.is_none())
 }
 

@@ -1,6 +1,6 @@
 -- Worked rows: logs of three zones of two columns, found by computation alone.
 use Rattle.std.specs.Prelude.{◌≡◌, ◌+◌, ◌++◌, ℕ, [], ◌∷◌, Some, None, codes, length, pos, refl}
-use Rattle.vortex_base.specs.declared.cells.ShortCell.TheVariants as cell
+use Rattle.vortex_base.specs.declared.array_data.PrimitiveScalar.TheVariants as cell
 use Rattle.vortex_base.specs.declared.pvalue.PValue.TheVariants as number
 use Rattle.vortex_base.specs.declared.scalar_value.ScalarValue.{ScalarValue}
 use Rattle.vortex_base.specs.declared.scalar_value.ScalarValue.TheVariants as value

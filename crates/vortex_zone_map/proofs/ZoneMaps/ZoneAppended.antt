@@ -8,7 +8,7 @@ use Rattle.vortex_base.specs.Data.Exact.{both_hold, both_true}
 use Rattle.vortex_base.specs.Data.Scopes.{Named}
 use Rattle.vortex_zone_map.proofs.ZoneLemmas.{scope_long}
 use Rattle.vortex_zone_map.specs.Zone.{AreZonesOf, ZoneData}
-use Rattle.vortex_zone_map.specs.ZoneMaps.{Head, IsMap, IsMapOf, MapData, appended_map, emptied_map, heads, zone_column, zone_map, zone_table}
+use Rattle.vortex_zone_map.specs.ZoneMaps.{StatColumn, IsMap, IsMapOf, MapData, appended_map, emptied_map, heads, zone_column, zone_map, zone_table}
 
 -- ---- declared sizes
 
@@ -53,7 +53,7 @@ rows_emptied (c ∷ cs) = refl
 
 pub appended_is_kept : (m k : MapData) (a b : List ℕ) → IsChunk m.table → IsChunk k.table → m.scope ≡ k.scope → IsMap m a → IsMap k b → IsMap (appended_map m k) a
 appended_is_kept m k a b is also same h g =
-    let scopes : m.table.scope ≡ k.table.scope = h.named ∙ ap (λ s. map (λ (x : Head). (x.name, x.dtype)) (heads s)) same ∙ sym g.named in
+    let scopes : m.table.scope ≡ k.table.scope = h.named ∙ ap (λ s. map (λ (x : StatColumn). (x.name, x.dtype)) (heads s)) same ∙ sym g.named in
     let long : length m.table.columns ≡ length k.table.columns = sym (scope_long m.table is) ∙ ap length scopes ∙ scope_long k.table also in
     record {
       named = h.named;
@@ -72,7 +72,7 @@ emptied_is_kept m a h = record {
 
 -- ---- of which zones it is
 
-columns_appended : (zones more : List ZoneData) (hs : List Head) → all_appended (map (zone_column zones) hs) (map (zone_column more) hs) ≡ map (zone_column (zones ++ more)) hs
+columns_appended : (zones more : List ZoneData) (hs : List StatColumn) → all_appended (map (zone_column zones) hs) (map (zone_column more) hs) ≡ map (zone_column (zones ++ more)) hs
 columns_appended zones more [] = refl
 columns_appended zones more (h ∷ hs) =
     ap₂ (λ (vs : List _) (cs : List ColumnData). record { dtype = h.dtype; values = vs; size = 0 } ∷ cs) (sym (map-append _ zones more)) (columns_appended zones more hs)

@@ -8,9 +8,9 @@ use Rattle.vortex_base.specs.Data.Columns.{ChunkData, IsChunk, row_count as rows
 use Rattle.vortex_base.specs.Data.Exact.{both_true}
 use Rattle.vortex_base.specs.Data.Scopes.{Named, is_empty}
 use Rattle.vortex_zone_map.specs.Zone.{AreZonesOf, IsZone, ZoneData, zones_fit}
-use Rattle.vortex_zone_map.specs.ZoneMaps.{Head, IsMap, IsMapOf, MapData, heads, named_head, starts_from, zone_column, zone_map, zone_table}
+use Rattle.vortex_zone_map.specs.ZoneMaps.{StatColumn, IsMap, IsMapOf, MapData, heads, named_head, starts_from, zone_column, zone_map, zone_table}
 
-rows_if : (zones : List ZoneData) (hs : List Head) → is_empty (map named_head hs) ≡ false → rows_of (map (zone_column zones) hs) ≡ length zones
+rows_if : (zones : List ZoneData) (hs : List StatColumn) → is_empty (map named_head hs) ≡ false → rows_of (map (zone_column zones) hs) ≡ length zones
 rows_if zones [] h = absurd cc
 rows_if zones (x ∷ hs) h = length-map zones _
 
@@ -23,7 +23,7 @@ table_rows scope zones table is same =
     let some = not_false (is_empty table.scope) (both_true _ _ (both_true _ _ is).0).0 in
     ap (λ (k : ChunkData). rows_of k.columns) same ∙ rows_if zones (heads scope) (sym (ap (λ (k : ChunkData). is_empty k.scope) same) ∙ some)
 
-table_sizeless : (zones : List ZoneData) (hs : List Head) → list_all (λ c. c.size == 0) (map (zone_column zones) hs) ≡ true
+table_sizeless : (zones : List ZoneData) (hs : List StatColumn) → list_all (λ c. c.size == 0) (map (zone_column zones) hs) ≡ true
 table_sizeless zones [] = refl
 table_sizeless zones (h ∷ hs) = table_sizeless zones hs
 

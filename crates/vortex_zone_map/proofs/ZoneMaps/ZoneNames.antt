@@ -22,7 +22,7 @@ use Rattle.vortex_stats.specs.Sets.Entries.{entries_fit}
 use Rattle.vortex_zone_map.proofs.StatFits.{stat_value-fits}
 use Rattle.vortex_zone_map.proofs.ZoneLemmas.{set_of_zone}
 use Rattle.vortex_zone_map.specs.Zone.{AreZonesOf, Entries, ZoneData}
-use Rattle.vortex_zone_map.specs.ZoneMaps.{EachTells, Head, TellsOf, head, named_head, heads, heads_from, set_value, suffix, supporting, zone_column, zone_table, zone_type, zone_value}
+use Rattle.vortex_zone_map.specs.ZoneMaps.{EachTells, StatColumn, TellsOf, head, named_head, heads, heads_from, set_value, suffix, supporting, zone_column, zone_table, zone_type, zone_value}
 
 both_false : (a b : Bool) → a ≡ false → b ≡ false → (a || b) ≡ false
 both_false true b h k = cc
@@ -159,36 +159,36 @@ names_are_scope cs h =
     let apart = distinct 0 cs (not_true (has_duplicate cs) b.0) in
     rw (some, apart, no_states 0 cs) refl
 
-pub scope_is_made : (cs ns : List Named) (hs : List Head) → IsScope cs → hs ≡ heads cs → ns ≡ map named_head hs → IsScope ns
+pub scope_is_made : (cs ns : List Named) (hs : List StatColumn) → IsScope cs → hs ≡ heads cs → ns ≡ map named_head hs → IsScope ns
 scope_is_made cs ns hs is all named = subst IsScope (sym (named ∙ ap (map named_head) all)) (names_are_scope cs is)
 
 -- there are some
-some_long : (hs : List Head) → is_empty (map named_head hs) ≡ false → 0 < length hs
+some_long : (hs : List StatColumn) → is_empty (map named_head hs) ≡ false → 0 < length hs
 some_long [] h = absurd cc
 some_long (x ∷ hs) h = omega arith
 
-pub has_heads : (cs : List Named) (hs : List Head) → IsScope cs → hs ≡ heads cs → 0 < length hs
-has_heads cs hs is all = subst (λ (l : List Head). 0 < length l) (sym all) (some_long (heads cs) (some_named 0 cs (not_true (is_empty cs) (both_true _ _ is).0)))
+pub has_heads : (cs : List Named) (hs : List StatColumn) → IsScope cs → hs ≡ heads cs → 0 < length hs
+has_heads cs hs is all = subst (λ (l : List StatColumn). 0 < length l) (sym all) (some_long (heads cs) (some_named 0 cs (not_true (is_empty cs) (both_true _ _ is).0)))
 
 -- ---- the chunk
 
-long_as : (zones : List ZoneData) (n : ℕ) (hs : List Head) → length zones ≡ n → all_long n (map (zone_column zones) hs) ≡ true
+long_as : (zones : List ZoneData) (n : ℕ) (hs : List StatColumn) → length zones ≡ n → all_long n (map (zone_column zones) hs) ≡ true
 long_as zones n [] e = refl
 long_as zones n (h ∷ hs) e =
     let k : length (map (zone_value h.aggregate h.source) zones) ≡ n = length-map zones (zone_value h.aggregate h.source) ∙ e in
     let test : (length (map (zone_value h.aggregate h.source) zones) == n) ≡ true = grind (arith, nat_tests) in
     both_hold _ _ test (long_as zones n hs e)
 
-all_as_long : (zones : List ZoneData) (hs : List Head) → all_long (rows_of (map (zone_column zones) hs)) (map (zone_column zones) hs) ≡ true
+all_as_long : (zones : List ZoneData) (hs : List StatColumn) → all_long (rows_of (map (zone_column zones) hs)) (map (zone_column zones) hs) ≡ true
 all_as_long zones [] = refl
 all_as_long zones (h ∷ hs) = long_as zones (length (map (zone_value h.aggregate h.source) zones)) (h ∷ hs) (sym (length-map zones (zone_value h.aggregate h.source)))
 
-as_many : (zones : List ZoneData) (hs : List Head) → (length (map named_head hs) == length (map (zone_column zones) hs)) ≡ true
+as_many : (zones : List ZoneData) (hs : List StatColumn) → (length (map named_head hs) == length (map (zone_column zones) hs)) ≡ true
 as_many zones hs =
     let k : length (map named_head hs) ≡ length (map (zone_column zones) hs) = length-map hs named_head ∙ sym (length-map hs (zone_column zones)) in
     grind (arith, nat_tests)
 
-all_typed : (zones : List ZoneData) (hs : List Head) → has_types (map named_head hs) (map (zone_column zones) hs) ≡ true
+all_typed : (zones : List ZoneData) (hs : List StatColumn) → has_types (map named_head hs) (map (zone_column zones) hs) ≡ true
 all_typed zones [] = refl
 all_typed zones (h ∷ hs) = both_hold _ _ ((dtype_eq_is_exact h.dtype h.dtype).1 refl) (all_typed zones hs)
 
@@ -198,7 +198,7 @@ chunk s cs = record { scope = s; columns = cs }
 abbrev ok_chunk : ChunkData → Result ChunkData BaseError
 ok_chunk k = Ok k
 
-pub columns_are_chunk : (zones : List ZoneData) (hs : List Head) → chunk_of (map named_head hs) (map (zone_column zones) hs) ≡ ok_chunk (chunk (map named_head hs) (map (zone_column zones) hs))
+pub columns_are_chunk : (zones : List ZoneData) (hs : List StatColumn) → chunk_of (map named_head hs) (map (zone_column zones) hs) ≡ ok_chunk (chunk (map named_head hs) (map (zone_column zones) hs))
 columns_are_chunk zones hs =
     let shape : has_shape (map named_head hs) (map (zone_column zones) hs) ≡ true = both_hold _ _ (as_many zones hs) (all_as_long zones hs) in
     rw (shape, all_typed zones hs) refl
@@ -208,7 +208,7 @@ columns_are_chunk zones hs =
 value_fits : (f : AggregateFnRef) (t u : DType) (n : ℕ) (o : Option Entries) (es : Entries) → o ≡ Some es → stat_type f t ≡ Ok u → entries_fit es t ≡ true → is_optional_value (set_value f o n) u ≡ true
 value_fits f t u n o es there e h = ap (λ x. is_optional_value (set_value f x n) u) there ∙ stat_value-fits f es n t u h e
 
-pub values_fit : (zones : List ZoneData) (h : Head) → EachTells zones h → all_fit h.dtype (map (zone_value h.aggregate h.source) zones) ≡ true
+pub values_fit : (zones : List ZoneData) (h : StatColumn) → EachTells zones h → all_fit h.dtype (map (zone_value h.aggregate h.source) zones) ≡ true
 values_fit [] h tells = refl
 values_fit (z ∷ zones) h tells =
     let own = tells 0 z refl in
@@ -228,12 +228,12 @@ all_supported (dtype.Binary n) = (refl, (refl, (refl, (refl, (refl, (refl, tt)))
 all_supported (dtype.MinMaxState e n) = (refl, (refl, (refl, (refl, tt))))
 
 module _ (m : ℕ) (whole : List Named) (c : Named) (here : slice_get whole m ≡ Some c) where
-  group_tells : (fs : List AggregateFnRef) (rest : List Head) → AllByRecursion (IsTyped c.1) fs → ((k : ℕ) (h : Head) → slice_get rest k ≡ Some h → TellsOf whole h) → (k : ℕ) (h : Head) → slice_get (map (head m c) fs ++ rest) k ≡ Some h → TellsOf whole h
+  group_tells : (fs : List AggregateFnRef) (rest : List StatColumn) → AllByRecursion (IsTyped c.1) fs → ((k : ℕ) (h : StatColumn) → slice_get rest k ≡ Some h → TellsOf whole h) → (k : ℕ) (h : StatColumn) → slice_get (map (head m c) fs ++ rest) k ≡ Some h → TellsOf whole h
   group_tells [] rest all later k h at = later k h at
   group_tells (f ∷ fs) rest all later zero h at = subst (TellsOf whole) (same_Some (head m c f) h at) (c, here, all.0)
   group_tells (f ∷ fs) rest all later (suc k) h at = group_tells fs rest all.1 later k h at
 
-tells_from : (m : ℕ) (whole cs : List Named) → ((j : ℕ) → slice_get whole (m + j) ≡ slice_get cs j) → (k : ℕ) (h : Head) → slice_get (heads_from m cs) k ≡ Some h → TellsOf whole h
+tells_from : (m : ℕ) (whole cs : List Named) → ((j : ℕ) → slice_get whole (m + j) ≡ slice_get cs j) → (k : ℕ) (h : StatColumn) → slice_get (heads_from m cs) k ≡ Some h → TellsOf whole h
 tells_from m whole [] same k h at = absurd cc
 tells_from m whole (c ∷ cs) same k h at =
     let first : m + 0 ≡ m = omega arith in
@@ -241,19 +241,19 @@ tells_from m whole (c ∷ cs) same k h at =
     (tells_from (m + 1) whole cs (λ j. let e : m + 1 + j ≡ m + suc j = omega arith in ap (slice_get whole) e ∙ same (suc j))) k h at
 
 -- a column of the table tells of a column of the scope that its aggregate supports
-pub head_tells : (scope : List Named) (k : ℕ) (h : Head) → slice_get (heads scope) k ≡ Some h → TellsOf scope h
+pub head_tells : (scope : List Named) (k : ℕ) (h : StatColumn) → slice_get (heads scope) k ≡ Some h → TellsOf scope h
 head_tells scope k h there = tells_from 0 scope scope (λ j. let e : 0 + j ≡ j = omega arith in ap (slice_get scope) e) k h there
 
 -- of that each zone has a set that fits
-pub zones_tell : (scope : List Named) (zones : List ZoneData) (h : Head) → AreZonesOf scope zones → TellsOf scope h → EachTells zones h
+pub zones_tell : (scope : List Named) (zones : List ZoneData) (h : StatColumn) → AreZonesOf scope zones → TellsOf scope h → EachTells zones h
 zones_tell scope zones h are tells i zone at =
     let set = set_of_zone scope zone.stats h.source tells.0 (are i zone at) tells.1 in
     (tells.0.1, set.0, set.1, set.2, tells.2)
 
-pub all_tell : (scope : List Named) (zones : List ZoneData) → AreZonesOf scope zones → (k : ℕ) (h : Head) → slice_get (heads scope) k ≡ Some h → EachTells zones h
+pub all_tell : (scope : List Named) (zones : List ZoneData) → AreZonesOf scope zones → (k : ℕ) (h : StatColumn) → slice_get (heads scope) k ≡ Some h → EachTells zones h
 all_tell scope zones are k h there = zones_tell scope zones h are (head_tells scope k h there)
 
-pub column_is_made : (zones : List ZoneData) (h : Head) (t : DType) (vs : List (Option ScalarValue)) → EachTells zones h → t ≡ h.dtype → vs ≡ map (zone_value h.aggregate h.source) zones
+pub column_is_made : (zones : List ZoneData) (h : StatColumn) (t : DType) (vs : List (Option ScalarValue)) → EachTells zones h → t ≡ h.dtype → vs ≡ map (zone_value h.aggregate h.source) zones
     → IsTrue (all_fit t vs)
 column_is_made zones h t vs tells typed made = ap (λ x. all_fit x vs) typed ∙ ap (all_fit h.dtype) made ∙ values_fit zones h tells
 
@@ -268,7 +268,7 @@ apart_chunk f k h = absurd cc
 same_chunk : (s t : ChunkData) → ok_chunk s ≡ ok_chunk t → s ≡ t
 same_chunk s t h = cc
 
-module _ (cs ns : List Named) (hs : List Head) (zones : List ZoneData) (columns : List ColumnData) (all : hs ≡ heads cs) (named : ns ≡ map named_head hs) (own : columns ≡ map (zone_column zones) hs) where
+module _ (cs ns : List Named) (hs : List StatColumn) (zones : List ZoneData) (columns : List ColumnData) (all : hs ≡ heads cs) (named : ns ≡ map named_head hs) (own : columns ≡ map (zone_column zones) hs) where
   table_made : chunk_of ns columns ≡ ok_chunk (chunk (map named_head hs) (map (zone_column zones) hs))
   table_made = ap (λ s. chunk_of s columns) named ∙ ap (chunk_of (map named_head hs)) own ∙ columns_are_chunk zones hs
 

@@ -15,7 +15,7 @@ use Rattle.vortex_base.specs.declared.scalar_value.ScalarValue.{ScalarValue}
 use Rattle.vortex_zone_map.proofs.ZoneMaps.ZoneAppended.{appended_is_of}
 use Rattle.vortex_zone_map.proofs.ZoneMaps.ZoneNames.{all_tell, values_fit}
 use Rattle.vortex_zone_map.specs.Zone.{AreZonesOf, IsZone, ZoneData}
-use Rattle.vortex_zone_map.specs.ZoneMaps.{EachTells, Head, IsMap, IsMapOf, MapData, appended_map, heads, named_head, told_of, zone_column, zone_map}
+use Rattle.vortex_zone_map.specs.ZoneMaps.{EachTells, StatColumn, IsMap, IsMapOf, MapData, appended_map, heads, named_head, told_of, zone_column, zone_map}
 
 -- a zone alone
 alone : (scope : List Named) (zone : ZoneData) → IsZone scope zone → AreZonesOf scope (zone ∷ [])
@@ -24,7 +24,7 @@ alone scope zone is (suc i) z e = absurd cc
 
 module _ (zone : ZoneData) where
   -- what it tells may stand in the columns of the table
-  told_fits : (hs : List Head) (cs : List ColumnData) → has_types (map named_head hs) cs ≡ true → ((k : ℕ) (h : Head) → slice_get hs k ≡ Some h → EachTells (zone ∷ []) h) → row_fits cs (map (told_of zone) hs) ≡ true
+  told_fits : (hs : List StatColumn) (cs : List ColumnData) → has_types (map named_head hs) cs ≡ true → ((k : ℕ) (h : StatColumn) → slice_get hs k ≡ Some h → EachTells (zone ∷ []) h) → row_fits cs (map (told_of zone) hs) ≡ true
   told_fits [] [] typed tells = refl
   told_fits [] (c ∷ cs) typed tells = cc
   told_fits (h ∷ hs) [] typed tells = cc
@@ -34,11 +34,11 @@ module _ (zone : ZoneData) where
       let fits = (both_true _ _ (values_fit (zone ∷ []) h (tells 0 h refl))).0 in
       both_hold _ _ (ap (is_optional_value (told_of zone h)) (sym same) ∙ fits) (told_fits hs cs both.1 (λ k x e. tells (suc k) x e))
 
-  no_more : (c : ColumnData) (h : Head) → with_value c (told_of zone h) ≡ appended c (zone_column (zone ∷ []) h)
+  no_more : (c : ColumnData) (h : StatColumn) → with_value c (told_of zone h) ≡ appended c (zone_column (zone ∷ []) h)
   no_more c h = let none : c.size ≡ c.size + 0 = omega arith in ap (λ n. record { dtype = c.dtype; values = c.values ++ told_of zone h ∷ []; size = n }) none
 
   -- its row is the table of this zone alone
-  row_is_table : (hs : List Head) (cs : List ColumnData) → with_row cs (map (told_of zone) hs) ≡ all_appended cs (map (zone_column (zone ∷ [])) hs)
+  row_is_table : (hs : List StatColumn) (cs : List ColumnData) → with_row cs (map (told_of zone) hs) ≡ all_appended cs (map (zone_column (zone ∷ [])) hs)
   row_is_table [] [] = refl
   row_is_table [] (c ∷ cs) = refl
   row_is_table (h ∷ hs) [] = refl
@@ -50,7 +50,7 @@ module _ (zone : ZoneData) where
   sizeless_pushed (c ∷ cs) [] h = h
   sizeless_pushed (c ∷ cs) (v ∷ vs) h = let both = both_true _ _ h in both_hold _ _ both.0 (sizeless_pushed cs vs both.1)
 
-  one_more : (hs : List Head) (cs : List ColumnData) → is_empty (map named_head hs) ≡ false → has_types (map named_head hs) cs ≡ true → rows_of (with_row cs (map (told_of zone) hs)) ≡ rows_of cs + 1
+  one_more : (hs : List StatColumn) (cs : List ColumnData) → is_empty (map named_head hs) ≡ false → has_types (map named_head hs) cs ≡ true → rows_of (with_row cs (map (told_of zone) hs)) ≡ rows_of cs + 1
   one_more [] cs some typed = absurd cc
   one_more (h ∷ hs) [] some typed = cc
   one_more (h ∷ hs) (c ∷ cs) some typed = length-append c.values (told_of zone h ∷ [])

@@ -12,7 +12,7 @@ use Rattle.vortex_base.specs.declared.dtype.DType.{DType}
 use Rattle.vortex_base.specs.declared.scalar_value.ScalarValue.{ScalarValue}
 use Rattle.vortex_zone_map.proofs.ZoneLemmas.{rest_of}
 use Rattle.vortex_zone_map.specs.Zone.{ZoneData}
-use Rattle.vortex_zone_map.specs.ZoneMaps.{Head, head, heads_from, is_typed, starts_from, supporting, told_of, zone_value}
+use Rattle.vortex_zone_map.specs.ZoneMaps.{StatColumn, head, heads_from, is_typed, starts_from, supporting, told_of, zone_value}
 
 -- ---- what there is for each aggregate that supports a type, as it is listed
 
@@ -39,13 +39,13 @@ module _ {X : Type 0} (make : AggregateFnRef → X) (t : DType) where
       ap (λ l. l ++ rest) pushed ∙ append_assoc old first rest ∙ ap (λ l. old ++ l) (sym split) ∙ before
 
 -- one more column of the scope was looked at
-pub heads_more : (cs : List Named) (i : ℕ) (c : Named) (old new all : List Head) → slice_get cs i ≡ Some c → new ≡ old ++ map (head i c) (supporting c.1) → old ++ heads_from i (drop i cs) ≡ all
+pub heads_more : (cs : List Named) (i : ℕ) (c : Named) (old new all : List StatColumn) → slice_get cs i ≡ Some c → new ≡ old ++ map (head i c) (supporting c.1) → old ++ heads_from i (drop i cs) ≡ all
     → new ++ heads_from (i + 1) (drop (i + 1) cs) ≡ all
 heads_more cs i c old new all there pushed before =
     let rest = heads_from (i + 1) (drop (i + 1) cs) in
     ap (λ l. l ++ rest) pushed ∙ append_assoc old (map (head i c) (supporting c.1)) rest ∙ ap (λ l. old ++ heads_from i l) (sym (rest_of cs i c there)) ∙ before
 
-pub starts_more : (cs : List Named) (i : ℕ) (c : Named) (old new : List Head) (starts after all : List ℕ) → slice_get cs i ≡ Some c → new ≡ old ++ map (head i c) (supporting c.1)
+pub starts_more : (cs : List Named) (i : ℕ) (c : Named) (old new : List StatColumn) (starts after all : List ℕ) → slice_get cs i ≡ Some c → new ≡ old ++ map (head i c) (supporting c.1)
     → after ≡ starts ++ length old ∷ [] → starts ++ starts_from (length old) (drop i cs) ≡ all → after ++ starts_from (length new) (drop (i + 1) cs) ≡ all
 starts_more cs i c old new starts after all there headed pushed before =
     let long : length new ≡ length old + length (supporting c.1) = ap length headed ∙ length-append old (map (head i c) (supporting c.1)) ∙ ap (λ n. length old + n) (length-map (supporting c.1) (head i c)) in

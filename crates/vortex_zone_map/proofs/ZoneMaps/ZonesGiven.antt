@@ -8,7 +8,7 @@ use Rattle.vortex_base.specs.Data.Scopes.{IsScope, Named}
 use Rattle.vortex_base.specs.declared.error.BaseError.{BaseError}
 use Rattle.vortex_zone_map.proofs.ZoneMaps.ZoneNames.{has_heads}
 use Rattle.vortex_zone_map.specs.GivenTables.{all_stand, chunk_with, is_table}
-use Rattle.vortex_zone_map.specs.ZoneMaps.{Head, IsMap, heads, named_head, starts_from}
+use Rattle.vortex_zone_map.specs.ZoneMaps.{StatColumn, IsMap, heads, named_head, starts_from}
 
 same_count : (a b : ℕ) → (a == b) ≡ true → a ≡ b
 same_count a b h = grind (arith, nat_tests)
@@ -17,43 +17,43 @@ count_same : (a b : ℕ) → a ≡ b → (a == b) ≡ true
 count_same a b h = grind (arith, nat_tests)
 
 module _ (n : ℕ) where
-  as_many : (hs : List Head) (cs : List ColumnData) → all_stand n hs cs ≡ true → length (map named_head hs) ≡ length cs
+  as_many : (hs : List StatColumn) (cs : List ColumnData) → all_stand n hs cs ≡ true → length (map named_head hs) ≡ length cs
   as_many [] [] h = refl
   as_many [] (c ∷ cs) h = absurd cc
   as_many (x ∷ hs) [] h = absurd cc
   as_many (x ∷ hs) (c ∷ cs) h = ap suc (as_many hs cs (both_true _ _ h).1)
 
-  all_typed : (hs : List Head) (cs : List ColumnData) → all_stand n hs cs ≡ true → has_types (map named_head hs) cs ≡ true
+  all_typed : (hs : List StatColumn) (cs : List ColumnData) → all_stand n hs cs ≡ true → has_types (map named_head hs) cs ≡ true
   all_typed [] [] h = refl
   all_typed [] (c ∷ cs) h = absurd cc
   all_typed (x ∷ hs) [] h = absurd cc
   all_typed (x ∷ hs) (c ∷ cs) h = both_hold _ _ (both_true _ _ (both_true _ _ h).0).0 (all_typed hs cs (both_true _ _ h).1)
 
-  as_long : (hs : List Head) (cs : List ColumnData) → all_stand n hs cs ≡ true → all_long n cs ≡ true
+  as_long : (hs : List StatColumn) (cs : List ColumnData) → all_stand n hs cs ≡ true → all_long n cs ≡ true
   as_long [] [] h = refl
   as_long [] (c ∷ cs) h = absurd cc
   as_long (x ∷ hs) [] h = absurd cc
   as_long (x ∷ hs) (c ∷ cs) h = both_hold _ _ (both_true _ _ (both_true _ _ (both_true _ _ h).0).1).0 (as_long hs cs (both_true _ _ h).1)
 
-  sizeless : (hs : List Head) (cs : List ColumnData) → all_stand n hs cs ≡ true → list_all (λ c. c.size == 0) cs ≡ true
+  sizeless : (hs : List StatColumn) (cs : List ColumnData) → all_stand n hs cs ≡ true → list_all (λ c. c.size == 0) cs ≡ true
   sizeless [] [] h = refl
   sizeless [] (c ∷ cs) h = absurd cc
   sizeless (x ∷ hs) [] h = absurd cc
   sizeless (x ∷ hs) (c ∷ cs) h = both_hold _ _ (both_true _ _ (both_true _ _ (both_true _ _ h).0).1).1 (sizeless hs cs (both_true _ _ h).1)
 
-  rows_given : (hs : List Head) (cs : List ColumnData) → 0 < length hs → all_stand n hs cs ≡ true → rows_of cs ≡ n
+  rows_given : (hs : List StatColumn) (cs : List ColumnData) → 0 < length hs → all_stand n hs cs ≡ true → rows_of cs ≡ n
   rows_given [] cs some h = absurd (omega (arith, some))
   rows_given (x ∷ hs) [] some h = absurd cc
   rows_given (x ∷ hs) (c ∷ cs) some h = same_count (length c.values) n (both_true _ _ (both_true _ _ (both_true _ _ h).0).1).0
 
-  all_as_long : (hs : List Head) (cs : List ColumnData) → 0 < length hs → all_stand n hs cs ≡ true → all_long (rows_of cs) cs ≡ true
+  all_as_long : (hs : List StatColumn) (cs : List ColumnData) → 0 < length hs → all_stand n hs cs ≡ true → all_long (rows_of cs) cs ≡ true
   all_as_long hs cs some h = ap (λ k. all_long k cs) (rows_given hs cs some h) ∙ as_long hs cs h
 
 abbrev ok_chunk : ChunkData → Result ChunkData BaseError
 ok_chunk k = Ok k
 
 -- the columns that are given and their names make a chunk
-pub given_are_chunk : (n : ℕ) (scope names : List Named) (hs : List Head) (cs : List ColumnData) → IsScope scope → hs ≡ heads scope → names ≡ map named_head hs → all_stand n hs cs ≡ true
+pub given_are_chunk : (n : ℕ) (scope names : List Named) (hs : List StatColumn) (cs : List ColumnData) → IsScope scope → hs ≡ heads scope → names ≡ map named_head hs → all_stand n hs cs ≡ true
     → chunk_of names cs ≡ ok_chunk (chunk_with names cs)
 given_are_chunk n scope names hs cs is all named h =
     let many : (length names == length cs) ≡ true = count_same (length names) (length cs) (ap length named ∙ as_many n hs cs h) in

@@ -12,8 +12,8 @@ use Rattle.std.proofs.Common.{Option}
 use Rattle.vortex_normal.proofs.Folded.{empty_value, ok_typed, plain_fits}
 use Rattle.vortex_normal.proofs.leaves.truth_of.Goals as goal
 
-pub built-requires : goal.built-requires
-built-requires c =
+pub expect_memory_only-requires : goal.expect_memory_only-requires
+expect_memory_only-requires c =
     let e = c.args.e.now in
     memory_alone _ _
     (empty_value e c.evaluate.result c.requires.constant c.requires.plain (subst (λ (r : List Constant). Answers (can_evaluate e r) (meaning e r 0) c.evaluate.result) c.empty.ensures c.evaluate.ensures.value))

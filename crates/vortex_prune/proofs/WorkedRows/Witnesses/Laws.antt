@@ -23,7 +23,7 @@ use Rattle.vortex_prune.specs.Zones.{zones_of}
 use Rattle.vortex_zone_map.specs.ZoneMaps.{IsMapOf}
 use Rattle.vortex_rewrite.specs.Facts.{IsHonest}
 use Rattle.vortex_rewrite.specs.Rewriting.Proof.{Assignment}
-use Rattle.vortex_rewrite.specs.Rewriting.ReadOnce.{IsInOrder, IsSatisfiable, is_apart}
+use Rattle.vortex_rewrite.specs.Rewriting.ReadOnce.{IsInOrder, IsSatisfiable, has_disjoint_ands}
 
 -- by the sets of another part 5 would be the least value, and 3 is there
 pub statistics_are_honest : IsWitness (IsPart low × IsTruePart low) (λ (A : Assignment). IsHonest A low.chunk.columns) (part_values mixed)
@@ -34,7 +34,7 @@ typed t = Ok t
 
 -- a falsifier that is true of the second zone, though 30 lies within its bounds
 pub falsifiers_are_complete : IsWitness
-    ((type_of above_ten ≡ typed (truth_type true)) × IsTrue (is_bool (truth_type true)) × IsZone scope (zone_of mixed) × IsTrue (fits_scope above_ten scope) × IsTrue (is_apart above_ten)
+    ((type_of above_ten ≡ typed (truth_type true)) × IsTrue (is_bool (truth_type true)) × IsZone scope (zone_of mixed) × IsTrue (fits_scope above_ten scope) × IsTrue (has_disjoint_ands above_ten)
     × IsBoxIn (zone_of mixed).stats above_ten mixed_box × IsInOrder above_ten mixed_box)
     (λ (is_true : Bool). IsTrue is_true ↔ ¬ IsSatisfiable above_ten mixed_box 2) true
 falsifiers_are_complete = record { met = (refl, refl, refl, refl, refl, mixed_box_known, mixed_box_ordered); refuted = λ h. absurd (h.0 refl thirty_satisfies) }

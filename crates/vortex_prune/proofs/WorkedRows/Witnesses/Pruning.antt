@@ -28,7 +28,7 @@ use Rattle.vortex_rewrite.specs.Causes.{IsRefusal, either_causes}
 use Rattle.vortex_rewrite.specs.Rewriting.Falsifiers.{bool_literal, falsifier, node, reduce_balanced, satisfier}
 use Rattle.vortex_rewrite.specs.Rewriting.Lawful.{IsLawful, OwnRule}
 use Rattle.vortex_rewrite.specs.Rewriting.Predicates.{is_predicate}
-use Rattle.vortex_rewrite.specs.Rewriting.ReadOnce.{Box, IsInOrder, IsSatisfiable, is_apart}
+use Rattle.vortex_rewrite.specs.Rewriting.ReadOnce.{Box, IsInOrder, IsSatisfiable, has_disjoint_ands}
 use Rattle.vortex_stats.specs.declared.error.StatsError.{StatsError}
 use Rattle.vortex_stats.specs.declared.error.StatsError.TheVariants.{NotPredicate, OpenProof}
 use mathlib.Core.Bool.{true≢false}
@@ -131,7 +131,7 @@ thirty_satisfies = (
 pub mixed_is_not_skipped : ZonesSkipExactly above_ten zones (0 ∷ 1 ∷ []) → ⊥
 mixed_is_not_skipped h = absurd ((h 1 (zone_of mixed) mixed_box refl mixed_box_known mixed_box_ordered).0 (1, omega arith, refl) thirty_satisfies)
 
-pub prune_complete : IsWitness (IsAskedOf above_ten scope × IsMapOf zones their_map × (built_in ≡ []) × IsTrue (is_apart above_ten)) (λ (skipped : List ℕ). ZonesSkipExactly above_ten zones skipped) (0 ∷ 1 ∷ [])
+pub prune_complete : IsWitness (IsAskedOf above_ten scope × IsMapOf zones their_map × (built_in ≡ []) × IsTrue (has_disjoint_ands above_ten)) (λ (skipped : List ℕ). ZonesSkipExactly above_ten zones skipped) (0 ∷ 1 ∷ [])
 prune_complete = record { met = (asked, is_map, refl, refl); refuted = mixed_is_not_skipped }
 
 pub open_is_not_memory : IsMemory OpenProof → ⊥
@@ -173,7 +173,7 @@ prune_by_sound = record {
 }
 
 pub prune_by_complete : IsWitness
-    (IsMapOf zones their_map × IsTrue (is_predicate above_ten) × IsTrue (fits_scope above_ten scope) × (falsifier [] above_ten ≡ falsifier [] above_ten) × IsTrue (is_apart above_ten))
+    (IsMapOf zones their_map × IsTrue (is_predicate above_ten) × IsTrue (fits_scope above_ten scope) × (falsifier [] above_ten ≡ falsifier [] above_ten) × IsTrue (has_disjoint_ands above_ten))
     (λ (vs : List Verdict). ZonesSkipExactly above_ten zones (places_where is_skipped vs)) (Skipped ∷ Skipped ∷ Whole ∷ [])
 prune_by_complete = record { met = (is_map, refl, refl, refl, refl); refuted = mixed_is_not_skipped }
 

@@ -18,7 +18,7 @@ use Rattle.vortex_rewrite.specs.Answers.{IsMemory}
 use Rattle.vortex_rewrite.specs.Causes.{IsRefusal}
 use Rattle.vortex_rewrite.specs.Rewriting.Falsifiers.{falsifier, node, reduce_balanced, satisfier}
 use Rattle.vortex_rewrite.specs.Rewriting.Predicates.{is_predicate}
-use Rattle.vortex_rewrite.specs.Rewriting.ReadOnce.{is_apart}
+use Rattle.vortex_rewrite.specs.Rewriting.ReadOnce.{has_disjoint_ands}
 use Rattle.vortex_stats.specs.declared.error.StatsError.{StatsError}
 use Rattle.vortex_stats.specs.declared.error.StatsError.TheVariants.{NotPredicate, OpenProof}
 
@@ -108,7 +108,7 @@ pub scan_ranges_evaluated : IsWitness (IsAskedOf above_ten scope × IsMapOf zone
 unfolding node reduce_balanced
 scan_ranges_evaluated = record { met = (asked, is_map); refuted = six_are_not_two }
 
-pub scan_ranges_complete : IsWitness (IsAskedOf above_ten scope × IsMapOf zones their_map × (built_in ≡ []) × IsTrue (is_apart above_ten)) (λ (skipped : List ℕ). ZonesSkipExactly above_ten zones skipped) (0 ∷ 1 ∷ [])
+pub scan_ranges_complete : IsWitness (IsAskedOf above_ten scope × IsMapOf zones their_map × (built_in ≡ []) × IsTrue (has_disjoint_ands above_ten)) (λ (skipped : List ℕ). ZonesSkipExactly above_ten zones skipped) (0 ∷ 1 ∷ [])
 scan_ranges_complete = record { met = (asked, is_map, refl, refl); refuted = mixed_is_not_skipped }
 
 pub scan_ranges_memory : IsWitness (IsAskedOf above_ten scope × IsTrue (has_ranges six_rows their_map) × IsTrue (is_predicate above_ten) × (built_in ≡ [])) (λ (e : StatsError). IsMemory e) OpenProof
@@ -149,7 +149,7 @@ pub scan_ranges_from_evaluated : IsWitness (IsAskedOf above_ten scope × IsMapOf
 unfolding node reduce_balanced
 scan_ranges_from_evaluated = record { met = (asked, is_map); refuted = six_are_not_two }
 
-pub scan_ranges_from_complete : IsWitness (IsAskedOf above_ten scope × IsMapOf zones their_map × (built_in ≡ []) × IsTrue (is_apart above_ten)) (λ (skipped : List ℕ). ZonesSkipExactly above_ten zones skipped) (0 ∷ 1 ∷ [])
+pub scan_ranges_from_complete : IsWitness (IsAskedOf above_ten scope × IsMapOf zones their_map × (built_in ≡ []) × IsTrue (has_disjoint_ands above_ten)) (λ (skipped : List ℕ). ZonesSkipExactly above_ten zones skipped) (0 ∷ 1 ∷ [])
 scan_ranges_from_complete = record { met = (asked, is_map, refl, refl); refuted = mixed_is_not_skipped }
 
 pub scan_ranges_from_memory : IsWitness (IsAskedOf above_ten scope × IsTrue (has_ranges_from eight_rows 1 their_map) × IsTrue (is_predicate above_ten) × (built_in ≡ [])) (λ (e : StatsError). IsMemory e) OpenProof

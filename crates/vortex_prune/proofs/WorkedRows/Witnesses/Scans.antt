@@ -24,7 +24,7 @@ use Rattle.vortex_rewrite.specs.Causes.{Causes, IsRefusal}
 use Rattle.vortex_rewrite.specs.Rewriting.Falsifiers.{falsifier, node, reduce_balanced, satisfier}
 use Rattle.vortex_rewrite.specs.Rewriting.Predicates.{is_predicate}
 use Rattle.vortex_rewrite.specs.Rewriting.Proof.{Assignment}
-use Rattle.vortex_rewrite.specs.Rewriting.ReadOnce.{is_apart}
+use Rattle.vortex_rewrite.specs.Rewriting.ReadOnce.{has_disjoint_ands}
 use Rattle.vortex_stats.specs.declared.error.BinderFault.TheVariants.{Own}
 use Rattle.vortex_stats.specs.declared.error.StatsError.{StatsError}
 use Rattle.vortex_stats.specs.declared.error.StatsError.TheVariants.{Binder, NotPredicate, OpenProof}
@@ -79,7 +79,7 @@ pub scan_evaluated : IsWitness (IsScanOf above_ten × AreFaithful is_faithful_ov
 unfolding node reduce_balanced
 scan_evaluated = record { met = (scanned, faithful); refuted = six_are_not_two }
 
-pub scan_complete : IsWitness (IsScanOf above_ten × (built_in ≡ []) × AreFaithful is_faithful_over parts parts × AreByStatistics value parts parts × IsTrue (is_apart above_ten))
+pub scan_complete : IsWitness (IsScanOf above_ten × (built_in ≡ []) × AreFaithful is_faithful_over parts parts × AreByStatistics value parts parts × IsTrue (has_disjoint_ands above_ten))
     (λ (skipped : List ℕ). SkipsExactly above_ten parts skipped) (0 ∷ 1 ∷ [])
 scan_complete = record { met = (scanned, refl, faithful, by_statistics parts, refl); refuted = mixed_is_not_skipped }
 
@@ -109,7 +109,7 @@ scan_faithful = record { met = (scanned, refl, faithful); refuted = λ h. none_o
 pub scan_zones_selected : IsWitness (IsAskedOf above_ten scope × AllByRecursion IsTruePart parts) (λ (selected : Rows). selected ≡ full above_ten parts) lossy
 scan_zones_selected = record { met = (asked, all_true); refuted = lossy_is_not_all }
 
-pub scan_zones_complete : IsWitness (IsAskedOf above_ten scope × (built_in ≡ []) × IsTrue (is_apart above_ten)) (λ (skipped : List ℕ). SkipsExactly above_ten parts skipped) (0 ∷ 1 ∷ [])
+pub scan_zones_complete : IsWitness (IsAskedOf above_ten scope × (built_in ≡ []) × IsTrue (has_disjoint_ands above_ten)) (λ (skipped : List ℕ). SkipsExactly above_ten parts skipped) (0 ∷ 1 ∷ [])
 scan_zones_complete = record { met = (asked, refl, refl); refuted = mixed_is_not_skipped }
 
 pub scan_zones_memory : IsWitness (IsAskedOf above_ten scope × IsTrue (is_predicate above_ten) × (built_in ≡ [])) (λ (e : StatsError). IsMemory e) OpenProof

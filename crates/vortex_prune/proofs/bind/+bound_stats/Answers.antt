@@ -5,8 +5,8 @@ use Rattle.vortex_prune.specs.Binding.BoundTo.{IsBinding, Replaces, base_type}
 use Rattle.vortex_prune.proofs.Binding.BoundTypes.{memory_alone, is_node, has_type, between_bound, binary-base_type, between-base_type, not-base_type, like-base_type}
 use Rattle.vortex_prune.proofs.bind.+bound_stats.Goals as goal
 
-pub built-requires-in-Binary : goal.built-requires-in-Binary
-built-requires-in-Binary g t c =
+pub expect_memory_only-requires-in-Binary : goal.expect_memory_only-requires-in-Binary
+expect_memory_only-requires-in-Binary g t c =
     let l = c.in_ok-left-in-Binary.left in
     let r = c.in_ok-right-in-Binary.right in
     let o = c.in-Binary.operator in
@@ -14,8 +14,8 @@ built-requires-in-Binary g t c =
     (binary-base_type o c.in-Binary.left.now c.in-Binary.right.now l r c.in_ok-left-in-Binary.ensures.typed c.in_ok-right-in-Binary.ensures.typed ∙ ap base_type (sym c.in-Binary.ensures))
     c.binary.ensures
 
-pub built-requires-in-Between : goal.built-requires-in-Between
-built-requires-in-Between g t c =
+pub expect_memory_only-requires-in-Between : goal.expect_memory_only-requires-in-Between
+expect_memory_only-requires-in-Between g t c =
     let x = c.in_ok-x-in-Between.x in
     let l = c.in_ok-lower-in-Between.lower in
     let u = c.in_ok-upper-in-Between.upper in
@@ -24,15 +24,15 @@ built-requires-in-Between g t c =
     (between-base_type o c.in-Between.x.now c.in-Between.lower.now c.in-Between.upper.now x l u c.in_ok-x-in-Between.ensures.typed c.in_ok-lower-in-Between.ensures.typed c.in_ok-upper-in-Between.ensures.typed ∙ ap base_type (sym c.in-Between.ensures))
     c.between.ensures
 
-pub built-requires-in-Not : goal.built-requires-in-Not
-built-requires-in-Not g t c =
+pub expect_memory_only-requires-in-Not : goal.expect_memory_only-requires-in-Not
+expect_memory_only-requires-in-Not g t c =
     let x = c.in_ok-bound_stats-in-Not.field-0 in
     memory_alone c.args.e.now (tree.not x) c.dtype-dtype.result c.not.result c.dtype-dtype.ensures
     (not-base_type c.in-Not.x.now x c.in_ok-bound_stats-in-Not.ensures.typed ∙ ap base_type (sym c.in-Not.ensures))
     c.not.ensures
 
-pub built-requires-in-Like : goal.built-requires-in-Like
-built-requires-in-Like g t c =
+pub expect_memory_only-requires-in-Like : goal.expect_memory_only-requires-in-Like
+expect_memory_only-requires-in-Like g t c =
     let x = c.in_ok-text-in-Like.text in
     let p = c.in_ok-pattern-in-Like.pattern in
     let o = c.in-Like.options in
@@ -47,8 +47,8 @@ returns-in_ok-right-in-Binary-clause-typed g t c =
     let o = c.in-Binary.operator in
     let e = c.args.e.now in
     let same : base_type (tree.binary o l r) ≡ base_type e = binary-base_type o c.in-Binary.left.now c.in-Binary.right.now l r c.in_ok-left-in-Binary.ensures.typed c.in_ok-right-in-Binary.ensures.typed ∙ ap base_type (sym c.in-Binary.ensures) in
-    has_type e (tree.binary o l r) c.built-in-Binary.result same
-    (is_node e (tree.binary o l r) c.dtype-dtype.result c.binary.result c.built-in-Binary.result c.dtype-dtype.ensures same c.binary.ensures c.built-in-Binary.ensures)
+    has_type e (tree.binary o l r) c.expect_memory_only-in-Binary.result same
+    (is_node e (tree.binary o l r) c.dtype-dtype.result c.binary.result c.expect_memory_only-in-Binary.result c.dtype-dtype.ensures same c.binary.ensures c.expect_memory_only-in-Binary.ensures)
 
 pub returns-in_ok-upper-in-Between-clause-typed : goal.returns-in_ok-upper-in-Between-clause-typed
 returns-in_ok-upper-in-Between-clause-typed g t c =
@@ -58,8 +58,8 @@ returns-in_ok-upper-in-Between-clause-typed g t c =
     let o = c.in-Between.options in
     let e = c.args.e.now in
     let same : base_type (tree.between o x l u) ≡ base_type e = between-base_type o c.in-Between.x.now c.in-Between.lower.now c.in-Between.upper.now x l u c.in_ok-x-in-Between.ensures.typed c.in_ok-lower-in-Between.ensures.typed c.in_ok-upper-in-Between.ensures.typed ∙ ap base_type (sym c.in-Between.ensures) in
-    has_type e (tree.between o x l u) c.built-in-Between.result same
-    (is_node e (tree.between o x l u) c.dtype-dtype.result c.between.result c.built-in-Between.result c.dtype-dtype.ensures same c.between.ensures c.built-in-Between.ensures)
+    has_type e (tree.between o x l u) c.expect_memory_only-in-Between.result same
+    (is_node e (tree.between o x l u) c.dtype-dtype.result c.between.result c.expect_memory_only-in-Between.result c.dtype-dtype.ensures same c.between.ensures c.expect_memory_only-in-Between.ensures)
 
 pub returns-in_ok-upper-in-Between-clause-bound : goal.returns-in_ok-upper-in-Between-clause-bound
 returns-in_ok-upper-in-Between-clause-bound g t c =
@@ -70,6 +70,6 @@ returns-in_ok-upper-in-Between-clause-bound g t c =
     let e = c.args.e.now in
     let R = Replaces (g.B.StatBinder.answer c.args.binder.now) (g.B.StatBinder.is_missing c.args.binder.now) in
     let same : base_type (tree.between o x l u) ≡ base_type e = between-base_type o c.in-Between.x.now c.in-Between.lower.now c.in-Between.upper.now x l u c.in_ok-x-in-Between.ensures.typed c.in_ok-lower-in-Between.ensures.typed c.in_ok-upper-in-Between.ensures.typed ∙ ap base_type (sym c.in-Between.ensures) in
-    let node = is_node e (tree.between o x l u) c.dtype-dtype.result c.between.result c.built-in-Between.result c.dtype-dtype.ensures same c.between.ensures c.built-in-Between.ensures in
-    subst (λ e. IfOk c.built-in-Between.result (IsBinding R e)) (sym c.in-Between.ensures)
-    (between_bound R o c.in-Between.x.now c.in-Between.lower.now c.in-Between.upper.now x l u c.built-in-Between.result c.in_ok-x-in-Between.ensures.bound c.in_ok-lower-in-Between.ensures.bound c.in_ok-upper-in-Between.ensures.bound node)
+    let node = is_node e (tree.between o x l u) c.dtype-dtype.result c.between.result c.expect_memory_only-in-Between.result c.dtype-dtype.ensures same c.between.ensures c.expect_memory_only-in-Between.ensures in
+    subst (λ e. IfOk c.expect_memory_only-in-Between.result (IsBinding R e)) (sym c.in-Between.ensures)
+    (between_bound R o c.in-Between.x.now c.in-Between.lower.now c.in-Between.upper.now x l u c.expect_memory_only-in-Between.result c.in_ok-x-in-Between.ensures.bound c.in_ok-lower-in-Between.ensures.bound c.in_ok-upper-in-Between.ensures.bound node)

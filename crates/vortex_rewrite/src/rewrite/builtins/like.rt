@@ -6,7 +6,7 @@ ghost use Rattle.vortex_rewrite.specs.Rewriting.Predicates.{is_connective, is_te
 ghost use Rattle.vortex_rewrite.specs.Rewriting.Falsifiers.{beyond as beyond_of, like_falsifier, text_falsifier, text_in};
 ghost use Rattle.vortex_rewrite.specs.Answers.{Makes};
 
-use crate::built::built;
+use crate::built::expect_memory_only;
 use crate::predicate::Predicate;
 use crate::rewrite::builtins::comparison::{both_joined, compared};
 use crate::rewrite::nodes::text_literal;
@@ -59,7 +59,7 @@ fn pattern_proof(
     requires { IsTrue (is_text x.now) }
     ensures { Makes (text_falsifier x.now (Some pattern.now)) result }
 {
-    let pattern = built(LikePattern::try_read(alloc, pattern))?;
+    let pattern = expect_memory_only(LikePattern::try_read(alloc, pattern))?;
     if let Some(exact) = pattern.exact() {
         return beyond(alloc, x, Operator::Gt, exact, exact);
     }

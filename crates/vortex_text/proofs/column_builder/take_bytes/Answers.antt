@@ -1,6 +1,6 @@
 use Rattle.std.proofs.Common.{◌++◌, ◌∷◌, [], Some, ◌∙◌, ap, map}
 use Rattle.std.proofs.lemmas.List.{map-append}
-use Rattle.vortex_base.specs.Data.Cells.{bytes_value}
+use Rattle.vortex_base.specs.Data.ArrayData.{bytes_value}
 use Rattle.vortex_base.specs.declared.scalar_value.ScalarValue.TheVariants as value
 use Rattle.vortex_text.proofs.FirstRows.{value_leaves}
 use Rattle.vortex_text.proofs.column_builder.take_bytes.Goals as goal

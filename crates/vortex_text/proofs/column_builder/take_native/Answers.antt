@@ -1,6 +1,6 @@
 use Rattle.std.proofs.Common.{◌++◌, ◌∷◌, [], ◌∙◌, ap, map, option_map}
 use Rattle.std.proofs.lemmas.List.{map-append}
-use Rattle.vortex_base.specs.Data.Cells.{short_value}
+use Rattle.vortex_base.specs.Data.ArrayData.{short_value}
 use Rattle.vortex_text.proofs.column_builder.take_native.Goals as goal
 
 pub returns-in-Ok-clause-taken : goal.returns-in-Ok-clause-taken

@@ -1,6 +1,6 @@
 use Rattle.std.proofs.Common.{◌≡◌, ◌++◌, ◌∷◌, [], ◌∙◌, ap, arith, map, option_map}
 use Rattle.std.proofs.lemmas.List.{map-append}
-use Rattle.vortex_base.specs.Data.Cells.{short_value}
+use Rattle.vortex_base.specs.Data.ArrayData.{short_value}
 use Rattle.vortex_text.proofs.ManyRows.{only_one_more}
 use Rattle.vortex_text.proofs.column_builder.take_native_rows.Goals as goal
 

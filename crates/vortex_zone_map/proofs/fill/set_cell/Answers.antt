@@ -1,5 +1,5 @@
 use Rattle.std.proofs.Common.{ap}
-use Rattle.vortex_base.specs.Data.Cells.{cell_values}
+use Rattle.vortex_base.specs.Data.ArrayData.{cell_values}
 use Rattle.vortex_zone_map.proofs.FillLemmas.{null_among}
 use Rattle.vortex_zone_map.proofs.fill.set_cell.Goals as goal
 

@@ -15,6 +15,6 @@ loop-set-preserved c =
       kept = c.in_ok-tell_set.ensures.kept;
       longer = longer_on _ _ _ c.loop-set.invariant.longer c.in_ok-tell_set.ensures.longer;
       told =
-          next_set_told (length c.args.sets.items) (said c.loop-set.longs.items c.loop-set.told.items) (said c.tell_set.new.longs.items c.tell_set.new.told.items) c.loop-set.yielded c.in-Some.set c.in_ok-tell_set.ensures.distinct t.0
-          (c.in_ok-tell_set.ensures.told ∙ ap (λ k. said c.loop-set.longs.items c.loop-set.told.items ++ said_in k c.in-Some.set) c.loop-set.invariant.count) c.loop-set.invariant.told;
+          next_set_told (length c.args.sets.items) (said c.loop-set.var_len_values.items c.loop-set.told.items) (said c.tell_set.new.var_len_values.items c.tell_set.new.told.items) c.loop-set.yielded c.in-Some.set c.in_ok-tell_set.ensures.distinct t.0
+          (c.in_ok-tell_set.ensures.told ∙ ap (λ k. said c.loop-set.var_len_values.items c.loop-set.told.items ++ said_in k c.in-Some.set) c.loop-set.invariant.count) c.loop-set.invariant.told;
     }

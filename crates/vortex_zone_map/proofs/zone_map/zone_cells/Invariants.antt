@@ -1,5 +1,5 @@
 use Rattle.std.proofs.Common.{◌≡◌, map, take}
-use Rattle.vortex_base.specs.Data.Cells.{cell_values}
+use Rattle.vortex_base.specs.Data.ArrayData.{cell_values}
 use Rattle.vortex_zone_map.specs.ZoneMaps.{zone_value}
 use Rattle.vortex_zone_map.proofs.zone_map.zone_cells.Given as goal
 

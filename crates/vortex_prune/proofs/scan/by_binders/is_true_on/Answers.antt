@@ -4,8 +4,8 @@ use Rattle.vortex_prune.proofs.Binding.ProofLemmas.{row_value}
 use Rattle.vortex_rewrite.proofs.Logic.{made_value, memory_alone}
 use Rattle.vortex_prune.proofs.scan.by_binders.is_true_on.Goals as goal
 
-pub built-requires : goal.built-requires
-built-requires c =
+pub expect_memory_only-requires : goal.expect_memory_only-requires
+expect_memory_only-requires c =
     memory_alone _ _ (row_value c.args.bound.now c.args.row.now c.args.rows c.evaluate.result c.requires.free c.requires.fits c.evaluate.ensures.value)
 
 pub returns-clause-value : goal.returns-clause-value

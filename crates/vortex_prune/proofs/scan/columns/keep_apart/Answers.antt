@@ -1,5 +1,5 @@
 use Rattle.std.proofs.Common.{ap, ◌∙◌}
-use Rattle.vortex_base.specs.Data.Cells.{value_of}
+use Rattle.vortex_base.specs.Data.ArrayData.{value_of}
 use Rattle.vortex_prune.proofs.ZoneMaps.ZoneMarks.{marked-marked}
 use Rattle.vortex_prune.specs.Scanning.Leaves.{compares_at}
 use Rattle.vortex_prune.specs.Scanning.Marks.{marked}

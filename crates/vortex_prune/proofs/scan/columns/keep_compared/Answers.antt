@@ -1,6 +1,6 @@
 use Rattle.std.proofs.Common.{ap, get_or, map, ◌∙◌, false}
 use Rattle.std.specs.Prelude.{◌&&◌, option_map}
-use Rattle.vortex_base.specs.Data.Natives.{optionals}
+use Rattle.vortex_base.specs.Data.PrimitiveArray.{optionals}
 use Rattle.vortex_prune.specs.Scanning.Leaves.{compares_at}
 use Rattle.vortex_prune.proofs.ZoneMaps.ZoneMarks.{marked_all, marked_more}
 use Rattle.vortex_prune.proofs.scan.columns.keep_compared.Goals as goal

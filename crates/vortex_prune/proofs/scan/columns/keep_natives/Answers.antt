@@ -1,6 +1,6 @@
 use Rattle.std.proofs.Common.{map, ◌∙◌}
 use Rattle.std.specs.Prelude.{option_map}
-use Rattle.vortex_base.specs.Data.Natives.{optionals}
+use Rattle.vortex_base.specs.Data.PrimitiveArray.{optionals}
 use Rattle.vortex_prune.proofs.Scanning.ColumnLemmas.{marked_by_no_comparison}
 use Rattle.vortex_prune.proofs.scan.columns.keep_natives.Goals as goal
 

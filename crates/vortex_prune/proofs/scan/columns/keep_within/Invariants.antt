@@ -1,6 +1,6 @@
 use Rattle.std.proofs.Common.{◌≡◌, ◌++◌, drop, map, take}
 use Rattle.std.specs.Prelude.{option_map}
-use Rattle.vortex_base.specs.Data.Natives.{optionals}
+use Rattle.vortex_base.specs.Data.PrimitiveArray.{optionals}
 use Rattle.vortex_prune.specs.Scanning.Leaves.{is_between_at}
 use Rattle.vortex_prune.specs.Scanning.Marks.{marked}
 use Rattle.vortex_prune.proofs.scan.columns.keep_within.Given as goal

@@ -1,6 +1,6 @@
 use Rattle.std.proofs.Common.{◌∙◌, rules, sym}
 use Rattle.vortex_base.proofs.Data.OrderLemmas.{value_cmp-ties}
-use Rattle.vortex_base.specs.Data.Cells.{value_of}
+use Rattle.vortex_base.specs.Data.ArrayData.{value_of}
 use Rattle.vortex_prune.proofs.Scanning.GapOrder.{equal_of}
 use Rattle.vortex_prune.proofs.scan.gaps.is_point.Goals as goal
 

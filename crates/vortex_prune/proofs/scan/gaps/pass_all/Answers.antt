@@ -1,6 +1,6 @@
 use Rattle.std.proofs.Common.{◌∙◌, ap, arith, option_map, rules}
 use Rattle.std.proofs.lemmas.List.Sorted.{IsPartitionPoint-from_clause}
-use Rattle.vortex_base.specs.Data.Cells.{value_of}
+use Rattle.vortex_base.specs.Data.ArrayData.{value_of}
 use Rattle.vortex_prune.specs.Scanning.Gaps.{gap_passes, is_past}
 use Rattle.vortex_prune.specs.declared.scan.gaps.Gap.{Gap}
 use Rattle.vortex_prune.proofs.Scanning.GapOrder.{all_before, by_first, partitioned}

@@ -1,6 +1,6 @@
 use Rattle.std.proofs.Common.{Some, ap, sym, ◌∙◌}
 use Rattle.std.specs.Prelude.{slice_get}
-use Rattle.vortex_base.specs.Data.Cells.{value_of}
+use Rattle.vortex_base.specs.Data.ArrayData.{value_of}
 use Rattle.vortex_base.specs.Data.Columns.{row_of, value_at}
 use Rattle.vortex_expr.specs.Meanings.Meaning.{meaning}
 use Rattle.vortex_prune.proofs.Scanning.LeafLemmas.{compares_swapped}

@@ -1,5 +1,5 @@
 use Rattle.std.proofs.Common.{Some, ap, sym, ◌∙◌}
-use Rattle.vortex_base.specs.Data.Cells.{value_of}
+use Rattle.vortex_base.specs.Data.ArrayData.{value_of}
 use Rattle.vortex_expr.specs.Meanings.Meaning.{meaning}
 use Rattle.vortex_prune.proofs.Scanning.LeafLemmas.{compares_swapped}
 use Rattle.vortex_prune.specs.Scanning.Leaves.{compares, swapped}

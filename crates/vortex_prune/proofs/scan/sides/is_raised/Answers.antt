@@ -1,6 +1,6 @@
 use Rattle.std.proofs.Common.{◌≡◌, ◌∙◌, ap, not, rules, sym, true}
 use Rattle.std.specs.Ordering.{is_gt}
-use Rattle.vortex_base.specs.Data.Cells.{value_of}
+use Rattle.vortex_base.specs.Data.ArrayData.{value_of}
 use Rattle.vortex_expr.specs.Trees.TreeEq.{tree_eq_is_exact}
 use Rattle.vortex_rewrite.proofs.Soundness.ValueTests.{value_le}
 use Rattle.vortex_prune.proofs.Scanning.GapOrder.{falls_so}

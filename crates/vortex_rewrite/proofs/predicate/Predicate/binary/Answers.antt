@@ -5,8 +5,8 @@ use Rattle.vortex_rewrite.proofs.Rewriting.ProofTypes.{fits_or_memory, binary_is
 use Rattle.vortex_rewrite.specs.Rewriting.Predicates.{is_predicate}
 use Rattle.vortex_rewrite.proofs.predicate.Predicate.binary.Goals as goal
 
-pub built-requires : goal.built-requires
-built-requires c = fits_or_memory (binary c.args.operator c.args.left c.args.right) _ c.requires c.binary.ensures
+pub expect_memory_only-requires : goal.expect_memory_only-requires
+expect_memory_only-requires c = fits_or_memory (binary c.args.operator c.args.left c.args.right) _ c.requires c.binary.ensures
 
 pub invariant_of-result : goal.invariant_of-result
 invariant_of-result c =

@@ -1,5 +1,5 @@
 use Rattle.std.proofs.Common.{◌≤◌, arith, length, option_map, refl}
-use Rattle.vortex_base.specs.Data.Cells.{value_of}
+use Rattle.vortex_base.specs.Data.ArrayData.{value_of}
 use Rattle.vortex_stats.specs.Measuring.Codes.{bytes_code}
 use Rattle.vortex_stats.proofs.Measuring.Passes.{bytes_key, fits_at, no_sum, told_all, told_next}
 use Rattle.vortex_stats.proofs.measure.pass.bytes_values.Goals as goal

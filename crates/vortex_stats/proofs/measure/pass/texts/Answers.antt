@@ -1,7 +1,7 @@
 use Rattle.std.proofs.Common.{◌<◌, ◌≤◌, ◌∙◌, arith, length, map, refl, slice_get, sym}
 use Rattle.std.proofs.lemmas.List.{length-map}
-use Rattle.vortex_base.specs.Data.Blobs.{blob_at}
-use Rattle.vortex_base.specs.Data.Cells.{text_value}
+use Rattle.vortex_base.specs.Data.VarBinArray.{blob_at}
+use Rattle.vortex_base.specs.Data.ArrayData.{text_value}
 use Rattle.vortex_stats.specs.Measuring.Codes.{bytes_code}
 use Rattle.vortex_stats.proofs.Measuring.Passes.{fits_at, no_sum, text_here, text_key, text_of_text, told_all, told_next}
 use Rattle.vortex_stats.proofs.measure.pass.texts.Goals as goal

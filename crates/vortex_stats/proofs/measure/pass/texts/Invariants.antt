@@ -1,5 +1,5 @@
 use Rattle.std.proofs.Common.{map, take}
-use Rattle.vortex_base.specs.Data.Cells.{text_value}
+use Rattle.vortex_base.specs.Data.ArrayData.{text_value}
 use Rattle.vortex_stats.specs.Measuring.Codes.{bytes_code}
 use Rattle.vortex_stats.specs.Measuring.Tallies.{IsTallyOf}
 use Rattle.vortex_stats.proofs.measure.pass.texts.Given as goal

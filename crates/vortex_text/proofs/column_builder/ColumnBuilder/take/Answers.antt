@@ -1,5 +1,5 @@
 use Rattle.std.proofs.Common.{◌≡◌, ap, get_or, subst}
-use Rattle.vortex_base.specs.Data.Cells.{short_value}
+use Rattle.vortex_base.specs.Data.ArrayData.{short_value}
 use Rattle.vortex_base.specs.Data.Columns.{ColumnData}
 use Rattle.vortex_base.specs.declared.dtype.DType.{DType}
 use Rattle.vortex_syntax.specs.Plain.{BeginsValue}

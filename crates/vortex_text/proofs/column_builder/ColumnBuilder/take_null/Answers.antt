@@ -1,5 +1,5 @@
 use Rattle.std.proofs.Common.{None, refl}
-use Rattle.vortex_base.specs.Data.Cells.{cell_values}
+use Rattle.vortex_base.specs.Data.ArrayData.{cell_values}
 use Rattle.vortex_text.proofs.FirstRows.{taken_of, value_leaves}
 use Rattle.vortex_text.proofs.column_builder.ColumnBuilder.take_null.Goals as goal
 

@@ -36,36 +36,36 @@ pub invariant_of-self : goal.invariant_of-self
 invariant_of-self c =
     let l = c.self.inside in
     let runs = all_of l.stretches in
-    (stays_log l.columns l.longs.items c.told_of.new.longs.items c.in_err-told.ensures.longer l.told.items l.current.items runs c.self.invariant.0, c.self.invariant.1)
+    (stays_log l.columns l.var_len_values.items c.told_of.new.var_len_values.items c.in_err-told.ensures.longer l.told.items l.current.items runs c.self.invariant.0, c.self.invariant.1)
 
 pub returns-in_err-told-clause-refused : goal.returns-in_err-told-clause-refused
 returns-in_err-told-clause-refused c =
     let l = c.self.inside in
     let runs = all_of l.stretches in
-    on_err c.from_residual-in_err-told.result (same_log l.columns l.longs.items c.told_of.new.longs.items c.in_err-told.ensures.longer l.told.items l.current.items runs c.self.invariant.0 ∙ c.self.view_is)
+    on_err c.from_residual-in_err-told.result (same_log l.columns l.var_len_values.items c.told_of.new.var_len_values.items c.in_err-told.ensures.longer l.told.items l.current.items runs c.self.invariant.0 ∙ c.self.view_is)
 
 pub invariant_of-self-in_err-joined : goal.invariant_of-self-in_err-joined
 invariant_of-self-in_err-joined c =
     let l = c.self.inside in
     let runs = all_of l.stretches in
-    (refused_is_log l.columns l.longs.items c.told_of.new.longs.items c.in_ok-told.ensures.longer l.told.items l.current.items runs c.self.invariant.0 c.next_stretch.new.told.items runs c.in_err-joined.ensures.same refl, c.self.invariant.1)
+    (refused_is_log l.columns l.var_len_values.items c.told_of.new.var_len_values.items c.in_ok-told.ensures.longer l.told.items l.current.items runs c.self.invariant.0 c.next_stretch.new.told.items runs c.in_err-joined.ensures.same refl, c.self.invariant.1)
 
 pub returns-in_err-joined-clause-refused : goal.returns-in_err-joined-clause-refused
 returns-in_err-joined-clause-refused c =
     let l = c.self.inside in
     let runs = all_of l.stretches in
-    on_err c.from_residual-in_err-joined.result (refused_log l.columns l.longs.items c.told_of.new.longs.items c.in_ok-told.ensures.longer l.told.items l.current.items runs c.self.invariant.0 c.next_stretch.new.told.items runs c.in_err-joined.ensures.same refl ∙ c.self.view_is)
+    on_err c.from_residual-in_err-joined.result (refused_log l.columns l.var_len_values.items c.told_of.new.var_len_values.items c.in_ok-told.ensures.longer l.told.items l.current.items runs c.self.invariant.0 c.next_stretch.new.told.items runs c.in_err-joined.ensures.same refl ∙ c.self.view_is)
 
 pub invariant_of-self-2 : goal.invariant_of-self-2
 invariant_of-self-2 c =
     let l = c.self.inside in
     let runs = all_of l.stretches in
-    let longs = c.told_of.new.longs.items in
+    let var_len_values = c.told_of.new.var_len_values.items in
     let more = c.in_ok-told.told.items in
-    let stays = stays_log l.columns l.longs.items longs c.in_ok-told.ensures.longer l.told.items l.current.items runs c.self.invariant.0 in
+    let stays = stays_log l.columns l.var_len_values.items var_len_values c.in_ok-told.ensures.longer l.told.items l.current.items runs c.self.invariant.0 in
     let is = c.in_ok-joined.ensures in
     let to : c.in_ok-joined.joined.to ≡ length l.told.items + length more = is.to ∙ ap (λ k. length l.told.items + k) (c.len.ensures ∙ c.in_ok-told.told.ok.0) in (
-      joined_is_log l.columns longs l.told.items more l.current.items runs stays c.in_ok-told.ensures.kept c.in_ok-joined.joined is.from to c.args.place c.move_behind.new.told.items (all_of c.join_at.new.self)
+      joined_is_log l.columns var_len_values l.told.items more l.current.items runs stays c.in_ok-told.ensures.kept c.in_ok-joined.joined is.from to c.args.place c.move_behind.new.told.items (all_of c.join_at.new.self)
           (c.move_behind.ensures.told ∙ ap (λ (ts : List StatEntry). ts ++ more) is.same) c.join_at.ensures.joined,
       c.join_at.ensures.counted,
     )
@@ -74,14 +74,14 @@ pub returns-clause-joined : goal.returns-clause-joined
 returns-clause-joined c =
     let l = c.self.inside in
     let runs = all_of l.stretches in
-    let longs = c.told_of.new.longs.items in
+    let var_len_values = c.told_of.new.var_len_values.items in
     let more = c.in_ok-told.told.items in
-    let stays = stays_log l.columns l.longs.items longs c.in_ok-told.ensures.longer l.told.items l.current.items runs c.self.invariant.0 in
+    let stays = stays_log l.columns l.var_len_values.items var_len_values c.in_ok-told.ensures.longer l.told.items l.current.items runs c.self.invariant.0 in
     let is = c.in_ok-joined.ensures in
     let to : c.in_ok-joined.joined.to ≡ length l.told.items + length more = is.to ∙ ap (λ k. length l.told.items + k) (c.len.ensures ∙ c.in_ok-told.told.ok.0) in
-    let before = same_log l.columns l.longs.items longs c.in_ok-told.ensures.longer l.told.items l.current.items runs c.self.invariant.0 ∙ c.self.view_is in
+    let before = same_log l.columns l.var_len_values.items var_len_values c.in_ok-told.ensures.longer l.told.items l.current.items runs c.self.invariant.0 ∙ c.self.view_is in
     ap (λ (d : LogData). joined_at c.args.place d.zones) (sym before)
-    ∙ joined_log l.columns longs l.told.items more l.current.items runs stays c.in_ok-told.ensures.kept c.in_ok-joined.joined is.from to c.args.place c.move_behind.new.told.items (all_of c.join_at.new.self)
+    ∙ joined_log l.columns var_len_values l.told.items more l.current.items runs stays c.in_ok-told.ensures.kept c.in_ok-joined.joined is.from to c.args.place c.move_behind.new.told.items (all_of c.join_at.new.self)
     (known_zone c.in_ok-left.left) (known_zone c.in_ok-right.right) c.in_ok-sets.sets.items (c.move_behind.ensures.told ∙ ap (λ (ts : List StatEntry). ts ++ more) is.same) c.join_at.ensures.joined
     (ap (λ (d : LogData). slice_get d.zones c.args.place) before ∙ c.in_ok-left.ensures.known) (ap (λ (d : LogData). slice_get d.zones (c.args.place + 1)) before ∙ c.in_ok-right.ensures.known) is.rows
     (c.in_ok-sets.ensures ∙ ap (merged_sets c.in_ok-left.left.sets.items) c.deref.ensures.value) c.in_ok-told.ensures.told
@@ -90,4 +90,4 @@ pub returns-clause-current : goal.returns-clause-current
 returns-clause-current c =
     let l = c.self.inside in
     let runs = all_of l.stretches in
-    ap (λ (d : LogData). d.current) (same_log l.columns l.longs.items c.told_of.new.longs.items c.in_ok-told.ensures.longer l.told.items l.current.items runs c.self.invariant.0 ∙ c.self.view_is)
+    ap (λ (d : LogData). d.current) (same_log l.columns l.var_len_values.items c.told_of.new.var_len_values.items c.in_ok-told.ensures.longer l.told.items l.current.items runs c.self.invariant.0 ∙ c.self.view_is)

@@ -17,11 +17,11 @@ returns-clause-known c =
     let s = c.at-stretch.result in
     let zone : List Entries → ZoneData = λ sets. record { rows = s.rows; stats = sets } in
     let there : slice_get runs c.args.place ≡ Some s = c.at-stretch.ensures in
-    let says = ap₂ (λ longs (ts : List StatEntry). sets_of l.columns (said longs (take (s.to - s.from) (drop s.from ts)))) c.deref-2.ensures.value c.deref.ensures.value
-    ∙ ap (sets_of l.columns) (stretch_said l.longs.items l.told.items s) in
+    let says = ap₂ (λ var_len_values (ts : List StatEntry). sets_of l.columns (said var_len_values (take (s.to - s.from) (drop s.from ts)))) c.deref-2.ensures.value c.deref.ensures.value
+    ∙ ap (sets_of l.columns) (stretch_said l.var_len_values.items l.told.items s) in
     ap (λ (d : LogData). slice_get d.zones c.args.place) (sym c.self.view_is)
-    ∙ slice_get-map (zone_of l.columns (said l.longs.items l.told.items)) runs c.args.place
-    ∙ ap (option_map (zone_of l.columns (said l.longs.items l.told.items))) there
+    ∙ slice_get-map (zone_of l.columns (said l.var_len_values.items l.told.items)) runs c.args.place
+    ∙ ap (option_map (zone_of l.columns (said l.var_len_values.items l.told.items))) there
     ∙ ap (λ (sets : List Entries). Some (zone sets)) (sym (c.in_ok-sets.ensures ∙ says))
 
 pub returns-clause-few : goal.returns-clause-few

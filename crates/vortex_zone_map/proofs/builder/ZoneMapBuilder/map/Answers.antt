@@ -1,7 +1,7 @@
 use Rattle.std.proofs.Common.{◌≡◌, List, subst, sym, ◌∙◌}
 use Rattle.std.specs.Prelude.{Some, slice_get}
 use Rattle.vortex_zone_map.proofs.ZoneMaps.ZoneNames.{all_tell}
-use Rattle.vortex_zone_map.specs.ZoneMaps.{Head}
+use Rattle.vortex_zone_map.specs.ZoneMaps.{StatColumn}
 use Rattle.vortex_zone_map.specs.Logs.{zones_from}
 use Rattle.vortex_zone_map.specs.Tables.{AreCells}
 use Rattle.vortex_zone_map.proofs.builder.ZoneMapBuilder.map.Goals as goal
@@ -12,6 +12,6 @@ columns_of-requires c =
     let same = c.deref-2.ensures.value ∙ c.in_ok-heads.ensures in
     record {
       zones = zones;
-      tells = λ k h at. all_tell c.args.scope zones c.requires.fits k h (subst (λ (hs : List Head). slice_get hs k ≡ Some h) same at);
-      cells = subst (λ (hs : List Head). AreCells hs zones c.in_ok-cells.cells.items) (c.deref.ensures.value ∙ sym c.deref-2.ensures.value) c.in_ok-cells.ensures;
+      tells = λ k h at. all_tell c.args.scope zones c.requires.fits k h (subst (λ (hs : List StatColumn). slice_get hs k ≡ Some h) same at);
+      cells = subst (λ (hs : List StatColumn). AreCells hs zones c.in_ok-cells.cells.items) (c.deref.ensures.value ∙ sym c.deref-2.ensures.value) c.in_ok-cells.ensures;
     }

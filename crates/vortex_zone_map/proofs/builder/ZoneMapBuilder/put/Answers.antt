@@ -11,20 +11,20 @@ returns-in_err-tell-clause-refused c =
     let l = c.self.inside in
     let runs = all_of l.stretches in
     on_err c.from_residual.result
-    (ap (λ (now : List StatEntry). log_of l.columns c.tell.new.longs.items l.told.items now runs) c.in_err-tell.ensures.refused
-    ∙ same_log l.columns l.longs.items c.tell.new.longs.items c.in_err-tell.ensures.longer l.told.items l.current.items runs c.self.invariant.0 ∙ c.self.view_is)
+    (ap (λ (now : List StatEntry). log_of l.columns c.tell.new.var_len_values.items l.told.items now runs) c.in_err-tell.ensures.refused
+    ∙ same_log l.columns l.var_len_values.items c.tell.new.var_len_values.items c.in_err-tell.ensures.longer l.told.items l.current.items runs c.self.invariant.0 ∙ c.self.view_is)
 
 pub returns-in_ok-tell-clause-told : goal.returns-in_ok-tell-clause-told
 returns-in_ok-tell-clause-told c =
     let l = c.self.inside in
     let runs = all_of l.stretches in
     let s : Saying = record { column = c.args.column; stat = c.args.stat; value = c.args.value } in
-    told_log l.columns l.longs.items c.tell.new.longs.items c.in_ok-tell.ensures.longer l.told.items l.current.items runs c.self.invariant.0 c.tell.new.told.items s c.in_ok-tell.ensures.told
+    told_log l.columns l.var_len_values.items c.tell.new.var_len_values.items c.in_ok-tell.ensures.longer l.told.items l.current.items runs c.self.invariant.0 c.tell.new.told.items s c.in_ok-tell.ensures.told
     ∙ ap (with_told c.args.column c.args.stat c.args.value) c.self.view_is
 
 pub returns-else-column-self-clause-told : goal.returns-else-column-self-clause-told
 returns-else-column-self-clause-told c =
     let l = c.self.inside in
     sym c.self.view_is
-    ∙ nothing_log l.columns l.longs.items l.told.items l.current.items (all_of l.stretches) c.args.column c.args.stat c.args.value (omega arith)
+    ∙ nothing_log l.columns l.var_len_values.items l.told.items l.current.items (all_of l.stretches) c.args.column c.args.stat c.args.value (omega arith)
     ∙ ap (with_told c.args.column c.args.stat c.args.value) c.self.view_is

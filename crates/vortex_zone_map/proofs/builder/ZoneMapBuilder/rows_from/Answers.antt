@@ -17,7 +17,7 @@ loop-next-preserved c =
     let l = c.self.inside in
     let k = c.loop-next.next in
     let s = c.at_hand-stretch.result in
-    let zone = zone_of l.columns (said l.longs.items l.told.items) in
+    let zone = zone_of l.columns (said l.var_len_values.items l.told.items) in
     let counts : Option ZoneData → Option ℕ = option_map (λ (z : ZoneData). z.rows) in
     let there : counts (slice_get c.args.self.now.zones (c.args.from + k)) ≡ Some s.rows =
     ap (λ (d : LogData). counts (slice_get d.zones (c.args.from + k))) (sym c.self.view_is)

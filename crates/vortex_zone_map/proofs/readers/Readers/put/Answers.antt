@@ -2,7 +2,7 @@ use Rattle.std.proofs.Common.{◌≡◌, ◌+◌, ℕ, Some, ap, arith, get_or, 
 use Rattle.std.proofs.lemmas.List.{get_or_past}
 use Rattle.std.proofs.lemmas.Option.{slice_get-get_or, slice_get_within}
 use Rattle.std.specs.Prelude.{slice_get, slice_set}
-use Rattle.vortex_base.specs.Data.Cells.{cell_values}
+use Rattle.vortex_base.specs.Data.ArrayData.{cell_values}
 use Rattle.vortex_zone_map.specs.StatValues.{told_value}
 use Rattle.vortex_stats.proofs.Sets.SlotLemmas.{number_below}
 use Rattle.vortex_zone_map.proofs.LinkLemmas.{slot_within}
@@ -15,7 +15,7 @@ pub readers-init : goal.readers-init
 readers-init c =
     let r = c.args.self.now in
     let l = r.links.now in
-    let t = saying r.longs.now c.args.told.now in
+    let t = saying r.var_len_values.now c.args.told.now in
     let own = slot t.column t.stat in
     let place = c.first-place.result in
     elim (lt_or_le own (length l.firsts.items)) [
@@ -38,7 +38,7 @@ pub readers-preserved : goal.readers-preserved
 readers-preserved c =
     let r = c.args.self.now in
     let l = r.links.now in
-    let t = saying r.longs.now c.args.told.now in
+    let t = saying r.var_len_values.now c.args.told.now in
     let n = c.readers.place in
     let h = get_or r.heads.now n c.index-self-place.result in
     let one = get_or c.readers.cells n c.index-cells-place.result in
@@ -60,7 +60,7 @@ readers-preserved c =
 pub readers-smaller : goal.readers-smaller
 readers-smaller c =
     let r = c.args.self.now in
-    let t = saying r.longs.now c.args.told.now in
+    let t = saying r.var_len_values.now c.args.told.now in
     let n = c.readers.place in
     let h = get_or r.heads.now n c.index-self-place.result in
     let here : slice_get r.heads.now n ≡ Some h = slice_get-get_or r.heads.now n c.index-self-place.result (omega (arith, c.readers-test.true)) in
@@ -71,4 +71,4 @@ readers-smaller c =
 pub returns : goal.returns
 returns c = λ before after z at rows wide is.
     let r = c.args.self.now in
-    all_mixed r.heads.now (saying r.longs.now c.args.told.now) before after z c.readers.place c.readers.cells (omega (arith, c.readers-test.false)) (c.readers.invariant.mixed before after z at rows wide is)
+    all_mixed r.heads.now (saying r.var_len_values.now c.args.told.now) before after z c.readers.place c.readers.cells (omega (arith, c.readers-test.false)) (c.readers.invariant.mixed before after z at rows wide is)

@@ -10,4 +10,4 @@ abbrev pub invariant-loop-next : goal.invariant-loop-next
 invariant-loop-next l =
     (before after : List ZoneData) (sets : List Entries) → length before ≡ l.zone → length sets * 9 ≡ length l.self.links.now.firsts.items
     → AreCells l.self.heads.now (before ++ zone_with l.rows sets ∷ after) l.initial.cells
-    → AreCells l.self.heads.now (before ++ zone_with l.rows (sets_with sets (said l.self.longs.now (take l.next l.told))) ∷ after) l.cells
+    → AreCells l.self.heads.now (before ++ zone_with l.rows (sets_with sets (said l.self.var_len_values.now (take l.next l.told))) ∷ after) l.cells

@@ -20,8 +20,8 @@ invariant_of-self-in-Ok c =
     let table = table_pushed m.table c.push_row.new.self c.in_ok-values.values.items row c.in-Ok.ensures.pushed in
     subst (λ (x : MapData). IsMap x starts) (sym (pushed_again zone m c.push_reserved.new.self.items c.push_row.new.self c.in_ok-values.values.items rows told table)) (pushed_is_kept zone m starts is c.self.invariant fits)
 
-pub built-requires : goal.built-requires
-built-requires c =
+pub expect_memory_only-requires : goal.expect_memory_only-requires
+expect_memory_only-requires c =
     let m = the_view c.self.inside in
     let zone = c.args.zone.now in
     let fits : fits_zone m.scope zone.stats ≡ true = sym c.sets_fit.ensures ∙ c.if-not-sets_fit.false in

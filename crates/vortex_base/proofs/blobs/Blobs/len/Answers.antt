@@ -1,8 +1,0 @@
-use Rattle.std.proofs.Common.{ap, arith, length}
-use Rattle.vortex_base.proofs.Data.BlobLemmas.{blobs-length}
-use Rattle.vortex_base.proofs.blobs.Blobs.len.Goals as goal
-
-pub returns : goal.returns
-returns c =
-    let inside = c.self.inside in
-    omega (arith, ap length c.self.view_is, blobs-length 0 inside.ends.items inside.heap.items inside.there.items c.self.invariant.long, inside.ends.ok)

@@ -1,7 +1,0 @@
-use Rattle.std.proofs.Common.{◌≡◌, Ok, Some}
-use Rattle.vortex_base.specs.Data.Cells.{cell_values}
-use Rattle.vortex_calls.specs.MapCells.{told_cells}
-use Rattle.vortex_calls.proofs.cells.told_values.Given as goal
-
-abbrev pub invariant-loop-place : goal.invariant-loop-place
-invariant-loop-place l = told_cells l.aggregate (Some l.source) l.rows l.from l.place ≡ Ok (cell_values l.cells)

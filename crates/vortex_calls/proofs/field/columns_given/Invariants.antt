@@ -1,8 +1,0 @@
-use Rattle.std.proofs.Common.{◌≡◌, [], Ok}
-use Rattle.vortex_base.specs.Data.Scopes.{named_columns}
-use Rattle.vortex_calls.specs.Refusals.{stepped}
-use Rattle.vortex_calls.specs.Scopes.{next_field}
-use Rattle.vortex_calls.proofs.field.columns_given.Given as goal
-
-abbrev pub invariant-loop-place : goal.invariant-loop-place
-invariant-loop-place l = stepped (next_field l.fields) [] l.place ≡ Ok (named_columns l.columns)

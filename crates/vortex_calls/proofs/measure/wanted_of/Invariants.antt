@@ -1,8 +1,0 @@
-use Rattle.std.proofs.Common.{◌≡◌, Ok, slice_index}
-use Rattle.vortex_calls.specs.Measures.{stat_of}
-use Rattle.vortex_calls.specs.Refusals.{all_read}
-use Rattle.vortex_calls.specs.Statuses.{at_entry}
-use Rattle.vortex_calls.proofs.measure.wanted_of.Given as goal
-
-abbrev pub invariant-loop-entry : goal.invariant-loop-entry
-invariant-loop-entry l = all_read at_entry (λ i. stat_of l.dtype (slice_index l.numbers i)) l.entry ≡ Ok l.wanted.items

@@ -1,7 +1,0 @@
-use Rattle.std.proofs.Common.{◌≡◌, Ok}
-use Rattle.vortex_calls.specs.Merges.{filled_at}
-use Rattle.vortex_calls.specs.Refusals.{stepped}
-use Rattle.vortex_calls.proofs.merge.filled.Given as goal
-
-abbrev pub invariant-loop-entry : goal.invariant-loop-entry
-invariant-loop-entry l = stepped (filled_at l.side l.dtype l.zones l.table) tt l.entry ≡ Ok tt

@@ -1,5 +1,0 @@
-use Rattle.vortex_calls.proofs.Nesting.Columns.{same_evaluation}
-use Rattle.vortex_calls.proofs.nested.laws.evaluates_the_same.Goals as goal
-
-pub returns : goal.returns
-returns c = same_evaluation

@@ -1,5 +1,0 @@
-use Rattle.vortex_calls.proofs.Nesting.Columns.{same_fit}
-use Rattle.vortex_calls.proofs.nested.laws.fits_the_same_scopes.Goals as goal
-
-pub returns : goal.returns
-returns c = same_fit

@@ -1,5 +1,0 @@
-use Rattle.vortex_calls.proofs.Nesting.Columns.{same_columns}
-use Rattle.vortex_calls.proofs.nested.laws.has_the_same_columns.Goals as goal
-
-pub returns : goal.returns
-returns c = same_columns

@@ -1,5 +1,0 @@
-use Rattle.vortex_calls.proofs.Nesting.Types.{same_type}
-use Rattle.vortex_calls.proofs.nested.laws.has_the_same_type.Goals as goal
-
-pub returns : goal.returns
-returns c = same_type

@@ -1,5 +1,0 @@
-use Rattle.vortex_calls.proofs.Nesting.Apart.{same_apart}
-use Rattle.vortex_calls.proofs.nested.laws.is_as_decided.Goals as goal
-
-pub returns : goal.returns
-returns c = same_apart

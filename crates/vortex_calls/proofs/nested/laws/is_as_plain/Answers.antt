@@ -1,5 +1,0 @@
-use Rattle.vortex_calls.proofs.Nesting.Columns.{same_plain}
-use Rattle.vortex_calls.proofs.nested.laws.is_as_plain.Goals as goal
-
-pub returns : goal.returns
-returns c = same_plain

@@ -1,5 +1,0 @@
-use Rattle.vortex_calls.proofs.Nesting.Types.{same_predicate}
-use Rattle.vortex_calls.proofs.nested.laws.is_the_same_predicate.Goals as goal
-
-pub returns : goal.returns
-returns c = same_predicate

@@ -1,5 +1,0 @@
-use Rattle.vortex_calls.proofs.Nesting.Types.{type_kept}
-use Rattle.vortex_calls.proofs.nested.laws.keeps_its_type.Goals as goal
-
-pub returns : goal.returns
-returns c = type_kept

@@ -1,8 +1,0 @@
-use Rattle.vortex_base.specs.Data.Cells.{value_of}
-use Rattle.vortex_calls.specs.Values.{cell}
-use Rattle.vortex_calls.specs.Extents.{HasRead}
-use Rattle.vortex_calls.proofs.values.Values.nulls_and_lent.Given as goal
-
-abbrev pub invariant-loop-row : goal.invariant-loop-row
-invariant-loop-row l =
-    HasRead value_of l.fn.dtype (cell l.fn.dtype l.self.values.now l.self.start l.self.ends.now l.self.nulls.now) l.row l.nulls l.range
