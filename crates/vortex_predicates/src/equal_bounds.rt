@@ -4,7 +4,6 @@ ghost use Rattle.vortex_expr.specs.Meanings.Typing.{type_of};
 ghost use Rattle.vortex_expr.specs.Trees.Tree as tree;
 ghost use Rattle.vortex_rewrite.specs.Answers.{Makes};
 ghost use Rattle.vortex_rewrite.specs.Causes.{IsRefusal};
-ghost use Rattle.vortex_rewrite.specs.Rewriting.Own.{own_rules};
 ghost use Rattle.vortex_rewrite.specs.Rewriting.Predicates.{is_predicate, is_text};
 ghost use Rattle.vortex_predicates.specs.EqualBounds as spec;
 ghost use Rattle.vortex_predicates.specs.EqualBounds.{is_column_like as is_like_of};
@@ -20,8 +19,7 @@ use vortex_expr::like::LikeOptions;
 use vortex_expr::scalar_fn::Operator;
 use vortex_rewrite::built::{cloned, expect_memory_only};
 use vortex_rewrite::rewrite::falsify;
-use vortex_rewrite::rewrite::rule::StatsRewriteRule;
-use vortex_rewrite::rewrite::rules::Rules;
+use vortex_rewrite::rewrite::rules::{OwnRules, Rules};
 use vortex_stats::error::StatsError;
 
 fn opposite(options: LikeOptions) -> LikeOptions
@@ -125,10 +123,10 @@ fn like_proof(
 ) -> Result<Option<BoundExpression>, StatsError>
     requires like { e.now ≡ tree.like options text.now pattern.now }
     requires truth { IsTrue (is_predicate e.now) }
-    ensures value { let own = own_rules StatsRewriteRule-box rules.now.own.items in
+    ensures value { let own = ⟦<Rules as OwnRules>⟧.own rules.now in
         IfOk result (λ proof. proof ≡ spec.leaf_proof own e.now) }
     ensures truth { IfOk result (λ proof. IfSome proof (λ e. IsTrue (is_predicate e))) }
-    ensures refusal { let own = own_rules StatsRewriteRule-box rules.now.own.items in
+    ensures refusal { let own = ⟦<Rules as OwnRules>⟧.own rules.now in
         IfErr result (IsRefusal (falsifying_causes own e.now)) }
 {
     let by_rules = falsify(alloc, e, rules)?;
@@ -143,10 +141,10 @@ fn leaf_proof(
     rules: &Rules,
 ) -> Result<Option<BoundExpression>, StatsError>
     requires { IsTrue (is_predicate e.now) }
-    ensures value { let own = own_rules StatsRewriteRule-box rules.now.own.items in
+    ensures value { let own = ⟦<Rules as OwnRules>⟧.own rules.now in
         IfOk result (λ proof. proof ≡ spec.leaf_proof own e.now) }
     ensures truth { IfOk result (λ proof. IfSome proof (λ e. IsTrue (is_predicate e))) }
-    ensures refusal { let own = own_rules StatsRewriteRule-box rules.now.own.items in
+    ensures refusal { let own = ⟦<Rules as OwnRules>⟧.own rules.now in
         IfErr result (IsRefusal (falsifying_causes own e.now)) }
 {
     match e.parts() {
@@ -175,10 +173,10 @@ pub(crate) fn form_proof(
     rules: &Rules,
 ) -> Result<Option<BoundExpression>, StatsError>
     requires { IsTrue (is_predicate e.now) }
-    ensures value { let own = own_rules StatsRewriteRule-box rules.now.own.items in
+    ensures value { let own = ⟦<Rules as OwnRules>⟧.own rules.now in
         IfOk result (λ proof. proof ≡ spec.form_proof own e.now) }
     ensures truth { IfOk result (λ proof. IfSome proof (λ e. IsTrue (is_predicate e))) }
-    ensures refusal { let own = own_rules StatsRewriteRule-box rules.now.own.items in
+    ensures refusal { let own = ⟦<Rules as OwnRules>⟧.own rules.now in
         IfErr result (IsRefusal (falsifying_causes own e.now)) }
 {
     if !has_column_like(e) {

@@ -10,7 +10,6 @@ ghost use Rattle.vortex_rewrite.specs.Causes.{IsRefusal, either_causes};
 ghost use Rattle.vortex_rewrite.specs.Rewriting.Falsifiers.{falsifier as falsifier_of};
 ghost use Rattle.vortex_rewrite.specs.Rewriting.Falsifiers.{satisfier as satisfier_of};
 ghost use Rattle.vortex_rewrite.specs.Rewriting.Lawful.{OwnRule};
-ghost use Rattle.vortex_rewrite.specs.Rewriting.Own.{own_rules};
 ghost use Rattle.vortex_rewrite.specs.Rewriting.Predicates.{is_predicate};
 ghost use Rattle.vortex_rewrite.specs.Rewriting.ReadOnce.{has_disjoint_ands};
 ghost use Rattle.vortex_zone_map.specs.Zone.{ZoneData};
@@ -43,8 +42,7 @@ use vortex_normal::normalize::{narrow, normal_test, normalize, strict};
 use vortex_prune::scan::prune::prune_by;
 use vortex_prune::scan::verdict::Verdict;
 use vortex_rewrite::built::cloned;
-use vortex_rewrite::rewrite::rule::StatsRewriteRule;
-use vortex_rewrite::rewrite::rules::Rules;
+use vortex_rewrite::rewrite::rules::{OwnRules, Rules};
 use vortex_rewrite::rewrite::{falsify, satisfy};
 use vortex_stats::error::StatsError;
 use vortex_zone_map::zone_map::ZoneMap;
@@ -126,13 +124,13 @@ fn test_proof(
     rules: &Rules,
 ) -> Result<Option<BoundExpression>, StatsError>
     requires { IsTrue (is_predicate predicate.now) }
-    ensures value { let own = own_rules StatsRewriteRule-box rules.now.own.items in
+    ensures value { let own = ⟦<Rules as OwnRules>⟧.own rules.now in
         IfOk result (λ proof. proof ≡ test_proof_of own levels wanted with_null predicate.now) }
     ensures truth { IfOk result (λ proof. IfSome proof (λ e. IsTrue (is_predicate e))) }
     ensures form { let p = predicate.now in
         IfOk result (λ _. IsTrue (is_test_within levels wanted with_null p)
         → IsTestForm wanted with_null p (strict_of wanted with_null p)) }
-    ensures refusal { let own = own_rules StatsRewriteRule-box rules.now.own.items in
+    ensures refusal { let own = ⟦<Rules as OwnRules>⟧.own rules.now in
         IfErr result (IsRefusal
         (falsifying_causes own (strict_of wanted with_null predicate.now))) }
 {
@@ -152,11 +150,11 @@ fn normal_falsifier(
     rules: &Rules,
 ) -> Result<Option<BoundExpression>, StatsError>
     requires { IsTrue (is_predicate normal.now) }
-    ensures value { let own = own_rules StatsRewriteRule-box rules.now.own.items in
+    ensures value { let own = ⟦<Rules as OwnRules>⟧.own rules.now in
         IfOk result (λ proof.
         proof ≡ unless_deep levels normal.now (falsifier_of own normal.now)) }
     ensures truth { IfOk result (λ proof. IfSome proof (λ e. IsTrue (is_predicate e))) }
-    ensures refusal { let own = own_rules StatsRewriteRule-box rules.now.own.items in
+    ensures refusal { let own = ⟦<Rules as OwnRules>⟧.own rules.now in
         IfErr result (IsRefusal (falsifying_causes own normal.now)) }
 {
     if is_shallow(normal, levels) {
@@ -174,11 +172,11 @@ fn normal_satisfier(
     rules: &Rules,
 ) -> Result<Option<BoundExpression>, StatsError>
     requires { IsTrue (is_predicate normal.now) }
-    ensures value { let own = own_rules StatsRewriteRule-box rules.now.own.items in
+    ensures value { let own = ⟦<Rules as OwnRules>⟧.own rules.now in
         IfOk result (λ proof.
         proof ≡ unless_deep levels normal.now (satisfier_of own normal.now)) }
     ensures truth { IfOk result (λ proof. IfSome proof (λ e. IsTrue (is_predicate e))) }
-    ensures refusal { let own = own_rules StatsRewriteRule-box rules.now.own.items in
+    ensures refusal { let own = ⟦<Rules as OwnRules>⟧.own rules.now in
         IfErr result (IsRefusal (satisfying_causes own normal.now)) }
 {
     if is_shallow(normal, levels) {
@@ -199,13 +197,13 @@ fn skip_proof(
     requires predicate { IsTrue (is_predicate predicate.now) }
     requires normal { normal.now ≡ normal_of predicate.now }
     requires truth { IsTrue (is_predicate normal.now) }
-    ensures value { let own = own_rules StatsRewriteRule-box rules.now.own.items in
+    ensures value { let own = ⟦<Rules as OwnRules>⟧.own rules.now in
         IfOk result (λ proof. proof ≡ skip_proof_of own levels predicate.now) }
     ensures form { let p = predicate.now in
         IfOk result (λ _. IsTrue (is_test_within levels true false p)
         → IsTestForm true false p (strict_of true false p)) }
     ensures truth { IfOk result (λ proof. IfSome proof (λ e. IsTrue (is_predicate e))) }
-    ensures refusal { let own = own_rules StatsRewriteRule-box rules.now.own.items in
+    ensures refusal { let own = ⟦<Rules as OwnRules>⟧.own rules.now in
         IfErr result (IsRefusal (skip_causes own predicate.now)) }
 {
     let by_test = test_proof(alloc, levels, true, false, predicate, rules)?;
@@ -226,13 +224,13 @@ fn whole_proof(
     requires predicate { IsTrue (is_predicate predicate.now) }
     requires normal { normal.now ≡ normal_of predicate.now }
     requires truth { IsTrue (is_predicate normal.now) }
-    ensures value { let own = own_rules StatsRewriteRule-box rules.now.own.items in
+    ensures value { let own = ⟦<Rules as OwnRules>⟧.own rules.now in
         IfOk result (λ proof. proof ≡ whole_proof_of own levels predicate.now) }
     ensures form { let p = predicate.now in
         IfOk result (λ _. IsTrue (is_test_within levels false true p)
         → IsTestForm false true p (strict_of false true p)) }
     ensures truth { IfOk result (λ proof. IfSome proof (λ e. IsTrue (is_predicate e))) }
-    ensures refusal { let own = own_rules StatsRewriteRule-box rules.now.own.items in
+    ensures refusal { let own = ⟦<Rules as OwnRules>⟧.own rules.now in
         IfErr result (IsRefusal (whole_causes own predicate.now)) }
 {
     let by_test = test_proof(alloc, levels, false, true, predicate, rules)?;
@@ -251,14 +249,14 @@ fn made(
 ) -> Result<PruningPredicate, StatsError>
     requires { IsTrue (is_plain predicate.now) }
     ensures predicate { IfOk result (λ made. made.predicate ≡ predicate.now) }
-    ensures made { let own = own_rules StatsRewriteRule-box rules.now.own.items in
+    ensures made { let own = ⟦<Rules as OwnRules>⟧.own rules.now in
         IfOk result (IsMadeBy own levels) }
     ensures right { IfOk result IsRight }
     ensures forms { IfOk result (λ made. HasTestForms levels made.predicate) }
     ensures not_predicate { is_predicate predicate.now ≡ false → result ≡ Err NotPredicate }
     ensures memory { IsTrue (is_predicate predicate.now) → rules.now.own.items ≡ []
         → IfErr result IsMemory }
-    ensures refusal { let own = own_rules StatsRewriteRule-box rules.now.own.items in
+    ensures refusal { let own = ⟦<Rules as OwnRules>⟧.own rules.now in
         let causes = making_causes own predicate.now in
         IsTrue (is_predicate predicate.now) → IfErr result (IsRefusal causes) }
 {
@@ -290,7 +288,7 @@ impl PruningPredicate {
         requires { IsTrue (is_plain predicate.now) }
         ensures predicate { IfOk result (λ made. made.predicate ≡ predicate.now) }
         // By these rules it has the proofs of the definitions.
-        ensures made { let own = own_rules StatsRewriteRule-box rules.now.own.items in
+        ensures made { let own = ⟦<Rules as OwnRules>⟧.own rules.now in
             IfOk result (IsMadeBy own None) }
         // They mean what they are for, whichever lawful rules took part.
         ensures right { IfOk result IsRight }
@@ -302,7 +300,7 @@ impl PruningPredicate {
             → IfErr result IsMemory }
         // A refusal other than for memory has its cause: a rule asked at a visited node of the
         // predicate, of its normal form or of a strict one.
-        ensures refusal { let own = own_rules StatsRewriteRule-box rules.now.own.items in
+        ensures refusal { let own = ⟦<Rules as OwnRules>⟧.own rules.now in
             let causes = making_causes own predicate.now in
             IsTrue (is_predicate predicate.now) → IfErr result (IsRefusal causes) }
     {
@@ -320,14 +318,14 @@ impl PruningPredicate {
     ) -> Result<PruningPredicate, StatsError>
         requires { IsTrue (is_plain predicate.now) }
         ensures predicate { IfOk result (λ made. made.predicate ≡ predicate.now) }
-        ensures made { let own = own_rules StatsRewriteRule-box rules.now.own.items in
+        ensures made { let own = ⟦<Rules as OwnRules>⟧.own rules.now in
             IfOk result (IsMadeBy own (Some levels)) }
         ensures right { IfOk result IsRight }
         ensures forms { IfOk result (λ made. HasTestForms (Some levels) made.predicate) }
         ensures not_predicate { is_predicate predicate.now ≡ false → result ≡ Err NotPredicate }
         ensures memory { IsTrue (is_predicate predicate.now) → rules.now.own.items ≡ []
             → IfErr result IsMemory }
-        ensures refusal { let own = own_rules StatsRewriteRule-box rules.now.own.items in
+        ensures refusal { let own = ⟦<Rules as OwnRules>⟧.own rules.now in
             let causes = making_causes own predicate.now in
             IsTrue (is_predicate predicate.now) → IfErr result (IsRefusal causes) }
     {

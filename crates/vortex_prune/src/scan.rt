@@ -11,7 +11,6 @@ ghost use Rattle.vortex_prune.specs.Scanning.ScanRefusals.{asking_causes, binder
 ghost use Rattle.vortex_prune.specs.Scanning.ScanRefusals.{kept_binders};
 ghost use Rattle.vortex_rewrite.specs.Rewriting.ReadOnce.{has_disjoint_ands};
 ghost use Rattle.vortex_prune.specs.Scanning.Complete.{SkipsExactly};
-ghost use Rattle.vortex_rewrite.specs.Rewriting.Own.{own_rules};
 ghost use Rattle.vortex_rewrite.specs.Rewriting.Falsifiers.{falsifier as falsifier_of};
 ghost use Rattle.vortex_rewrite.specs.Rewriting.Falsifiers.{satisfier as satisfier_of};
 
@@ -43,8 +42,7 @@ use crate::scan::part_scan::{PartTest, scan_parts};
 use crate::scan::verdict::Verdict;
 use std::alloc::Global;
 use vortex_expr::bound_expression::BoundExpression;
-use vortex_rewrite::rewrite::rule::StatsRewriteRule;
-use vortex_rewrite::rewrite::rules::Rules;
+use vortex_rewrite::rewrite::rules::{OwnRules, Rules};
 use vortex_rewrite::rewrite::{falsify, satisfy};
 use vortex_stats::error::StatsError;
 
@@ -140,7 +138,7 @@ pub fn scan<B: StatBinder>(
         → AreHonest B.value parts.now binders.now
         → scan.selected.items ≡ full predicate.now parts.now) }
     // With faithful binders a part is skipped exactly if the falsifier is true of it.
-    ensures skipped { let own = own_rules StatsRewriteRule-box rules.now.own.items in
+    ensures skipped { let own = ⟦<Rules as OwnRules>⟧.own rules.now in
         IfOk result (λ scan. AreFaithful B.is_faithful_over parts.now binders.now
         → scan.skipped.items ≡ skipped_parts (falsifier_of own predicate.now)
         (answered B.value parts.now binders.now)) }
@@ -153,12 +151,12 @@ pub fn scan<B: StatBinder>(
         → SkipsExactly predicate.now parts.now scan.skipped.items) }
     // Which parts are skipped and whole, which rows are selected and how many tested, where the
     // binders are faithful; and what each binder has bound.
-    ensures answered { let own = own_rules StatsRewriteRule-box rules.now.own.items in
+    ensures answered { let own = ⟦<Rules as OwnRules>⟧.own rules.now in
         let f = falsifier_of own predicate.now in
         let s = satisfier_of own predicate.now in
         IfOk result (ScansByBinders B.StatBinder f s predicate.now parts.now binders.now) }
     // When each refusal comes.
-    ensures refused { let own = own_rules StatsRewriteRule-box rules.now.own.items in
+    ensures refused { let own = ⟦<Rules as OwnRules>⟧.own rules.now in
         RefusesByBinders B.StatBinder own predicate.now parts.now binders.now result }
 {
     let falsifier = falsify(alloc, predicate, rules)?;

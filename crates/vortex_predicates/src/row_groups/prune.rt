@@ -8,7 +8,6 @@ ghost use Rattle.vortex_predicates.specs.RowGroups.Pruning.{PrunesSoundly, zone_
 ghost use Rattle.vortex_prune.specs.Scanning.ZoneScans.{skipped_zones, whole_zones};
 ghost use Rattle.vortex_rewrite.specs.Rewriting.Falsifiers.{falsifier as falsifier_of};
 ghost use Rattle.vortex_rewrite.specs.Rewriting.Falsifiers.{satisfier as satisfier_of};
-ghost use Rattle.vortex_rewrite.specs.Rewriting.Own.{own_rules};
 
 use crate::row_groups::laws::groups_are_parts;
 use crate::row_groups::zones::map_of;
@@ -18,8 +17,7 @@ use vortex_expr::bound_expression::BoundExpression;
 use vortex_parquet::columns::Leaf;
 use vortex_parquet::stats::GroupStats;
 use vortex_prune::{Pruned, prune};
-use vortex_rewrite::rewrite::rule::StatsRewriteRule;
-use vortex_rewrite::rewrite::rules::Rules;
+use vortex_rewrite::rewrite::rules::{OwnRules, Rules};
 use vortex_stats::error::StatsError;
 
 /// Returns which row groups hold no row that satisfies a predicate, and of which each row does. The
@@ -41,12 +39,12 @@ pub fn prune_groups(
         → PrunesSoundly predicate.now scope leaves.now file pruned.skipped.items
         pruned.whole.items) }
     // A row group is skipped exactly if the falsifier is true by its statistics.
-    ensures skipped { let own = own_rules StatsRewriteRule-box rules.now.own.items in
+    ensures skipped { let own = ⟦<Rules as OwnRules>⟧.own rules.now in
         let proof = falsifier_of own predicate.now in
         IfOk result (λ pruned.
         pruned.skipped.items ≡ skipped_zones proof scope (map zone_data groups.now)) }
     // And whole exactly if it isn't skipped and the satisfier is.
-    ensures whole { let own = own_rules StatsRewriteRule-box rules.now.own.items in
+    ensures whole { let own = ⟦<Rules as OwnRules>⟧.own rules.now in
         let f = falsifier_of own predicate.now in
         let s = satisfier_of own predicate.now in
         IfOk result (λ pruned.

@@ -6,7 +6,6 @@ ghost use Rattle.vortex_zone_map.specs.Zone.{ZoneData};
 ghost use Rattle.vortex_prune.specs.Scanning.ZoneScans.{AreRowVerdicts, zone_verdicts};
 ghost use Rattle.vortex_zone_map.specs.ZoneMaps.{IsMapOf};
 ghost use Rattle.vortex_predicates.specs.Pruning.{IsMadeBy, skipped_places, whole_places};
-ghost use Rattle.vortex_rewrite.specs.Rewriting.Own.{own_rules};
 ghost use Rattle.vortex_sql.specs.Lowering.{Says, opaques, span_of};
 ghost use Rattle.vortex_sql.specs.Refusals.{misfits};
 ghost use Rattle.vortex_predicates.specs.Conditions.Conditions.{Confirms, IsSoundFor, Refutes, max_levels, pruning_of};
@@ -22,8 +21,7 @@ use std::marker::Model;
 use vortex_base::scope::Scope;
 use vortex_prune::scan::prune::prune_by;
 use vortex_prune::scan::verdict::Verdict;
-use vortex_rewrite::rewrite::rule::StatsRewriteRule;
-use vortex_rewrite::rewrite::rules::Rules;
+use vortex_rewrite::rewrite::rules::{OwnRules, Rules};
 use vortex_sql::condition::{Predicate, condition_by};
 use vortex_sql::syntax::parse::Names;
 use vortex_sql::syntax::tree::Condition;
@@ -100,7 +98,7 @@ impl PruningCondition {
         // condition means.
         ensures says { IfOk result (λ made.
             Says scope.now made.condition made.predicate) }
-        ensures made { let own = own_rules StatsRewriteRule-box rules.now.own.items in
+        ensures made { let own = ⟦<Rules as OwnRules>⟧.own rules.now in
             IfOk result (λ made.
             IsMadeBy own (Some max_levels) (pruning_of made)) }
         // Says what the proofs tell by statistics of the scope, whatever the leaves mean that

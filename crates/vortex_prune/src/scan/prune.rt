@@ -10,7 +10,6 @@ ghost use Rattle.vortex_rewrite.specs.Causes.{IsRefusal, either_causes};
 ghost use Rattle.vortex_rewrite.specs.Rewriting.Falsifiers.{falsifier as falsifier_of};
 ghost use Rattle.vortex_rewrite.specs.Rewriting.Falsifiers.{satisfier as satisfier_of};
 ghost use Rattle.vortex_rewrite.specs.Rewriting.Lawful.{OwnRule};
-ghost use Rattle.vortex_rewrite.specs.Rewriting.Own.{own_rules};
 ghost use Rattle.vortex_rewrite.specs.Rewriting.Predicates.{is_predicate};
 ghost use Rattle.vortex_rewrite.specs.Rewriting.Proof.{is_open};
 ghost use Rattle.vortex_rewrite.specs.Rewriting.ReadOnce.{has_disjoint_ands};
@@ -36,8 +35,7 @@ use crate::scan::marks::zones_passing;
 use crate::scan::verdict::Verdict;
 use std::alloc::{AllocError, Global};
 use vortex_expr::bound_expression::BoundExpression;
-use vortex_rewrite::rewrite::rule::StatsRewriteRule;
-use vortex_rewrite::rewrite::rules::Rules;
+use vortex_rewrite::rewrite::rules::{OwnRules, Rules};
 use vortex_rewrite::rewrite::{falsify, satisfy};
 use vortex_stats::error::StatsError;
 use vortex_zone_map::zone_map::ZoneMap;
@@ -201,11 +199,11 @@ pub(crate) fn verdicts(
     predicate: &BoundExpression,
     rules: &Rules,
 ) -> Result<Vec<Verdict>, StatsError>
-    ensures rows { let own = own_rules StatsRewriteRule-box rules.now.own.items in
+    ensures rows { let own = ⟦<Rules as OwnRules>⟧.own rules.now in
         let f = falsifier_of own predicate.now in
         let s = satisfier_of own predicate.now in
         IfOk result (λ vs. AreRowVerdicts f s map.now vs.items) }
-    ensures verdicts { let own = own_rules StatsRewriteRule-box rules.now.own.items in
+    ensures verdicts { let own = ⟦<Rules as OwnRules>⟧.own rules.now in
         let f = falsifier_of own predicate.now in
         let s = satisfier_of own predicate.now in
         IfOk result (λ vs. (zones : List ZoneData) → IsMapOf zones map.now
@@ -213,17 +211,17 @@ pub(crate) fn verdicts(
     ensures long { IfOk result (λ vs. length vs.items ≡ length map.now.rows) }
     ensures predicate { IfOk result (λ _. IsTrue (is_predicate predicate.now)) }
     ensures not_predicate { is_predicate predicate.now ≡ false → result ≡ Err NotPredicate }
-    ensures closed { let own = own_rules StatsRewriteRule-box rules.now.own.items in
+    ensures closed { let own = ⟦<Rules as OwnRules>⟧.own rules.now in
         let proof = falsifier_of own predicate.now in
         IfOk result (λ _. is_left_open proof map.now.rows ≡ false) }
-    ensures kept_closed { let own = own_rules StatsRewriteRule-box rules.now.own.items in
+    ensures kept_closed { let own = ⟦<Rules as OwnRules>⟧.own rules.now in
         let s = satisfier_of own predicate.now in
         IfOk result (λ vs. IsShutIfVerdict s vs.items) }
-    ensures refusal { let own = own_rules StatsRewriteRule-box rules.now.own.items in
+    ensures refusal { let own = ⟦<Rules as OwnRules>⟧.own rules.now in
         IsTrue (is_predicate predicate.now) → IfErr result (λ e. (zones : List ZoneData)
         → IsMapOf zones map.now
         → IsRefusal (pruning_causes own predicate.now map.now.scope zones) e) }
-    ensures at_most { let own = own_rules StatsRewriteRule-box rules.now.own.items in
+    ensures at_most { let own = ⟦<Rules as OwnRules>⟧.own rules.now in
         let causes = most_causes own predicate.now map.now.rows in
         IsTrue (is_predicate predicate.now) → IfErr result (IsRefusal causes) }
 {
@@ -362,38 +360,38 @@ fn prune_rules(
     predicate: &BoundExpression,
     rules: &Rules,
 ) -> Result<Pruned, StatsError>
-    ensures rows_skipped { let own = own_rules StatsRewriteRule-box rules.now.own.items in
+    ensures rows_skipped { let own = ⟦<Rules as OwnRules>⟧.own rules.now in
         let f = falsifier_of own predicate.now in
         let s = satisfier_of own predicate.now in
         let places = places_where is_skipped (row_verdicts f s map.now) in
         IfOk result (λ pruned. pruned.skipped.items ≡ places) }
-    ensures rows_whole { let own = own_rules StatsRewriteRule-box rules.now.own.items in
+    ensures rows_whole { let own = ⟦<Rules as OwnRules>⟧.own rules.now in
         let f = falsifier_of own predicate.now in
         let s = satisfier_of own predicate.now in
         let places = places_where is_whole (row_verdicts f s map.now) in
         IfOk result (λ pruned. pruned.whole.items ≡ places) }
-    ensures skipped { let own = own_rules StatsRewriteRule-box rules.now.own.items in
+    ensures skipped { let own = ⟦<Rules as OwnRules>⟧.own rules.now in
         let proof = falsifier_of own predicate.now in
         IfOk result (λ pruned. (zones : List ZoneData) → IsMapOf zones map.now
         → pruned.skipped.items ≡ skipped_zones proof map.now.scope zones) }
-    ensures whole { let own = own_rules StatsRewriteRule-box rules.now.own.items in
+    ensures whole { let own = ⟦<Rules as OwnRules>⟧.own rules.now in
         let f = falsifier_of own predicate.now in
         let s = satisfier_of own predicate.now in
         IfOk result (λ pruned. (zones : List ZoneData) → IsMapOf zones map.now
         → pruned.whole.items ≡ whole_zones f s map.now.scope zones) }
     ensures predicate { IfOk result (λ _. IsTrue (is_predicate predicate.now)) }
     ensures not_predicate { is_predicate predicate.now ≡ false → result ≡ Err NotPredicate }
-    ensures closed { let own = own_rules StatsRewriteRule-box rules.now.own.items in
+    ensures closed { let own = ⟦<Rules as OwnRules>⟧.own rules.now in
         let proof = falsifier_of own predicate.now in
         IfOk result (λ _. is_left_open proof map.now.rows ≡ false) }
-    ensures kept_closed { let own = own_rules StatsRewriteRule-box rules.now.own.items in
+    ensures kept_closed { let own = ⟦<Rules as OwnRules>⟧.own rules.now in
         let s = satisfier_of own predicate.now in
         IfOk result (λ pruned. IsShutIfKept pruned.skipped.items s map.now.rows) }
-    ensures refusal { let own = own_rules StatsRewriteRule-box rules.now.own.items in
+    ensures refusal { let own = ⟦<Rules as OwnRules>⟧.own rules.now in
         IsTrue (is_predicate predicate.now) → IfErr result (λ e. (zones : List ZoneData)
         → IsMapOf zones map.now
         → IsRefusal (pruning_causes own predicate.now map.now.scope zones) e) }
-    ensures at_most { let own = own_rules StatsRewriteRule-box rules.now.own.items in
+    ensures at_most { let own = ⟦<Rules as OwnRules>⟧.own rules.now in
         let causes = most_causes own predicate.now map.now.rows in
         IsTrue (is_predicate predicate.now) → IfErr result (IsRefusal causes) }
 {
@@ -429,13 +427,13 @@ pub fn prune(
         pruned.whole.items) }
     // On each row of the table, whatever it was made of: its zone is skipped exactly if the
     // falsifier is true by what the row holds.
-    ensures rows_skipped { let own = own_rules StatsRewriteRule-box rules.now.own.items in
+    ensures rows_skipped { let own = ⟦<Rules as OwnRules>⟧.own rules.now in
         let f = falsifier_of own predicate.now in
         let s = satisfier_of own predicate.now in
         let places = places_where is_skipped (row_verdicts f s map.now) in
         IfOk result (λ pruned. pruned.skipped.items ≡ places) }
     // And whole exactly if it isn't skipped and the satisfier is.
-    ensures rows_whole { let own = own_rules StatsRewriteRule-box rules.now.own.items in
+    ensures rows_whole { let own = ⟦<Rules as OwnRules>⟧.own rules.now in
         let f = falsifier_of own predicate.now in
         let s = satisfier_of own predicate.now in
         let places = places_where is_whole (row_verdicts f s map.now) in
@@ -449,12 +447,12 @@ pub fn prune(
         EachRowOf true predicate.now map.now pruned.whole.items) }
     // So where the map is that of zones: one is skipped exactly if the falsifier is true by its
     // statistics.
-    ensures skipped { let own = own_rules StatsRewriteRule-box rules.now.own.items in
+    ensures skipped { let own = ⟦<Rules as OwnRules>⟧.own rules.now in
         let proof = falsifier_of own predicate.now in
         IfOk result (λ pruned. (zones : List ZoneData) → IsMapOf zones map.now
         → pruned.skipped.items ≡ skipped_zones proof map.now.scope zones) }
     // And whole exactly if it isn't skipped and the satisfier is.
-    ensures whole { let own = own_rules StatsRewriteRule-box rules.now.own.items in
+    ensures whole { let own = ⟦<Rules as OwnRules>⟧.own rules.now in
         let f = falsifier_of own predicate.now in
         let s = satisfier_of own predicate.now in
         IfOk result (λ pruned. (zones : List ZoneData) → IsMapOf zones map.now
@@ -469,22 +467,22 @@ pub fn prune(
         → IfErr result IsMemory }
     ensures not_predicate { is_predicate predicate.now ≡ false → result ≡ Err NotPredicate }
     // No falsifier that has a column outside its placeholders was bound.
-    ensures closed { let own = own_rules StatsRewriteRule-box rules.now.own.items in
+    ensures closed { let own = ⟦<Rules as OwnRules>⟧.own rules.now in
         let proof = falsifier_of own predicate.now in
         IfOk result (λ _. is_left_open proof map.now.rows ≡ false) }
     // Nor such a satisfier, for a zone that isn't skipped.
-    ensures kept_closed { let own = own_rules StatsRewriteRule-box rules.now.own.items in
+    ensures kept_closed { let own = ⟦<Rules as OwnRules>⟧.own rules.now in
         let s = satisfier_of own predicate.now in
         IfOk result (λ pruned. IsShutIfKept pruned.skipped.items s map.now.rows) }
     // A refusal has its cause: a rule asked at a visited node, such a falsifier and a zone, or such
     // a satisfier and a zone that isn't skipped.
-    ensures refusal { let own = own_rules StatsRewriteRule-box rules.now.own.items in
+    ensures refusal { let own = ⟦<Rules as OwnRules>⟧.own rules.now in
         IsTrue (is_predicate predicate.now) → IfErr result (λ e. (zones : List ZoneData)
         → IsMapOf zones map.now
         → IsRefusal (pruning_causes own predicate.now map.now.scope zones) e) }
     // Whatever the table was made of, it has such a rule, or such a falsifier or satisfier and a
     // zone.
-    ensures at_most { let own = own_rules StatsRewriteRule-box rules.now.own.items in
+    ensures at_most { let own = ⟦<Rules as OwnRules>⟧.own rules.now in
         let causes = most_causes own predicate.now map.now.rows in
         IsTrue (is_predicate predicate.now) → IfErr result (IsRefusal causes) }
 {

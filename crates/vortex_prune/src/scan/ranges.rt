@@ -5,7 +5,6 @@ ghost use Rattle.std.specs.List.{AllByRecursion};
 ghost use Rattle.vortex_base.specs.Data.Columns.{row_count};
 ghost use Rattle.vortex_expr.specs.Meanings.Fitting.{fits_scope};
 ghost use Rattle.vortex_expr.specs.Trees.Tree.{is_plain};
-ghost use Rattle.vortex_rewrite.specs.Rewriting.Own.{own_rules};
 ghost use Rattle.vortex_rewrite.specs.Rewriting.ReadOnce.{has_disjoint_ands};
 ghost use Rattle.vortex_prune.specs.Part.{IsTruePart, PartData};
 ghost use Rattle.vortex_zone_map.specs.Zone.{ZoneData};
@@ -27,8 +26,7 @@ use crate::scan::verdict::Verdict;
 use std::alloc::Global;
 use vortex_base::chunk::Chunk;
 use vortex_expr::bound_expression::BoundExpression;
-use vortex_rewrite::rewrite::rule::StatsRewriteRule;
-use vortex_rewrite::rewrite::rules::Rules;
+use vortex_rewrite::rewrite::rules::{OwnRules, Rules};
 use vortex_stats::error::StatsError;
 use vortex_zone_map::zone_map::ZoneMap;
 
@@ -134,10 +132,10 @@ pub fn scan_ranges_from(
         → ZonesSkipExactly predicate.now zones scan.skipped.items) }
     // Which zones are skipped and whole, which rows are selected and how many tested, by any table
     // and by that of zones; and that no open proof was bound.
-    ensures answered { let own = own_rules StatsRewriteRule-box rules.now.own.items in
+    ensures answered { let own = ⟦<Rules as OwnRules>⟧.own rules.now in
         IfOk result (ScansRanges own predicate.now chunk.now first map.now) }
     // When each refusal comes.
-    ensures refused { let own = own_rules StatsRewriteRule-box rules.now.own.items in
+    ensures refused { let own = ⟦<Rules as OwnRules>⟧.own rules.now in
         let are_ranges = has_ranges_from chunk.now first map.now in
         RefusesRanges are_ranges own predicate.now map.now result }
 {
@@ -195,10 +193,10 @@ pub fn scan_ranges(
         → rules.now.own.items ≡ [] → IsTrue (has_disjoint_ands predicate.now)
         → ZonesSkipExactly predicate.now zones scan.skipped.items) }
     // All that `scan_ranges_from` finds from the first row on.
-    ensures answered { let own = own_rules StatsRewriteRule-box rules.now.own.items in
+    ensures answered { let own = ⟦<Rules as OwnRules>⟧.own rules.now in
         IfOk result (ScansRanges own predicate.now chunk.now 0 map.now) }
     // When each refusal comes.
-    ensures refused { let own = own_rules StatsRewriteRule-box rules.now.own.items in
+    ensures refused { let own = ⟦<Rules as OwnRules>⟧.own rules.now in
         let are_ranges = has_ranges chunk.now map.now in
         RefusesRanges are_ranges own predicate.now map.now result }
 {

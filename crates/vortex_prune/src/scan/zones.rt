@@ -6,7 +6,6 @@ ghost use Rattle.vortex_expr.specs.Meanings.Fitting.{fits_scope};
 ghost use Rattle.vortex_expr.specs.Trees.Tree.{Place, Tree, is_plain};
 ghost use Rattle.vortex_rewrite.specs.Rewriting.ReadOnce.{has_disjoint_ands};
 ghost use Rattle.vortex_prune.specs.Scanning.Complete.{SkipsExactly};
-ghost use Rattle.vortex_rewrite.specs.Rewriting.Own.{own_rules};
 ghost use Rattle.vortex_prune.specs.Part.{AreParts, IsTruePart};
 ghost use Rattle.vortex_rewrite.specs.Rewriting.Falsifiers.{falsifier as falsifier_of};
 ghost use Rattle.vortex_prune.specs.Scanning.Promises.{RefusesByZones, ScansByZones, ScansParts};
@@ -26,8 +25,7 @@ use crate::scan::verdict::Verdict;
 use crate::zones::Zones;
 use std::alloc::Global;
 use vortex_expr::bound_expression::BoundExpression;
-use vortex_rewrite::rewrite::rule::StatsRewriteRule;
-use vortex_rewrite::rewrite::rules::Rules;
+use vortex_rewrite::rewrite::rules::{OwnRules, Rules};
 use vortex_stats::error::StatsError;
 
 // Decides by a list of verdicts that were found beforehand.
@@ -87,10 +85,10 @@ fn scan_rules(
     requires fits { IsTrue (fits_scope predicate.now zones.now.scope) }
     ensures parts { AreParts zones.now.parts }
     ensures scoped { HaveScope zones.now.scope zones.now.parts }
-    ensures answered { let own = own_rules StatsRewriteRule-box rules.now.own.items in
+    ensures answered { let own = ⟦<Rules as OwnRules>⟧.own rules.now in
         let answers = statistics_answers zones.now.parts in
         IfOk result (ScansByZones own predicate.now zones.now.parts answers) }
-    ensures refused { let own = own_rules StatsRewriteRule-box rules.now.own.items in
+    ensures refused { let own = ⟦<Rules as OwnRules>⟧.own rules.now in
         RefusesByZones own predicate.now zones.now.parts result }
 {
     // That the parts are of the scope and their map is kept.
@@ -126,7 +124,7 @@ pub fn scan_zones<'a>(
         → scan.selected.items ≡ full predicate.now zones.now.parts) }
     // A part is skipped exactly if the falsifier is true of it, as in the scan of these parts by
     // the binders of their own statistics.
-    ensures skipped { let own = own_rules StatsRewriteRule-box rules.now.own.items in
+    ensures skipped { let own = ⟦<Rules as OwnRules>⟧.own rules.now in
         let values = ⟦<StatsBinder<'a> as StatBinder>⟧.value in
         let answers = answered values zones.now.parts zones.now.parts in
         let places = skipped_parts (falsifier_of own predicate.now) answers in
@@ -138,12 +136,12 @@ pub fn scan_zones<'a>(
         → SkipsExactly predicate.now zones.now.parts scan.skipped.items) }
     // Which parts are skipped and whole, which rows are selected and how many tested, as in that
     // scan; and that no open proof was bound.
-    ensures answered { let own = own_rules StatsRewriteRule-box rules.now.own.items in
+    ensures answered { let own = ⟦<Rules as OwnRules>⟧.own rules.now in
         let values = ⟦<StatsBinder<'a> as StatBinder>⟧.value in
         let answers = answered values zones.now.parts zones.now.parts in
         IfOk result (ScansByZones own predicate.now zones.now.parts answers) }
     // When each refusal comes.
-    ensures refused { let own = own_rules StatsRewriteRule-box rules.now.own.items in
+    ensures refused { let own = ⟦<Rules as OwnRules>⟧.own rules.now in
         RefusesByZones own predicate.now zones.now.parts result }
 {
     scan_rules(alloc, zones, predicate, rules)

@@ -1,7 +1,7 @@
 //! The rules that predicates are rewritten by.
 ghost use Rattle.std.specs.Prelude.{◌≡◌, ◌++◌, ◌∷◌, [], OnErr, OnOk};
 
-use crate::rewrite::rule::StatsRewriteRuleRef;
+use crate::rewrite::rule::{StatsRewriteRule, StatsRewriteRuleRef};
 use std::alloc::{AllocError, Global};
 use vortex_expr::scalar_fn::ScalarFnId;
 
@@ -58,6 +58,21 @@ impl BuiltinRule {
 pub struct Rules {
     /// The user's rules, asked after the built-in ones and in this order.
     pub own: Vec<StatsRewriteRuleRef>,
+}
+
+/// What has rules of a user. A contract names them as `⟦<Rules as OwnRules>⟧.own`.
+pub trait OwnRules {
+    ghost use Rattle.std.specs.Prelude.{List};
+    ghost use Rattle.vortex_rewrite.specs.Rewriting.Lawful.{OwnRule};
+
+    // The rules, read as plain data, in their order.
+    ghost own: { Self → List OwnRule };
+}
+
+impl OwnRules for Rules {
+    ghost use Rattle.vortex_rewrite.specs.Rewriting.Own.{own_rules};
+
+    ghost own = { λ rules. own_rules StatsRewriteRule-box rules.own.items };
 }
 
 impl Rules {
