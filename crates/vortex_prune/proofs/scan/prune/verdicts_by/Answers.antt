@@ -20,8 +20,8 @@ returns-in_err-bound-clause-refusal c =
     (satisfier_refused f (option_copied c.args.satisfier) m c.len.result c.in_ok-all.all.items c.in_ok-skipped.skipped.items c.deref.result.now c.deref-2.result.now c.in_err-bound.field-0.0
     c.deref.ensures.value (c.in_ok-all.ensures.items_if_clones_equal (λ y e. e)) c.in_ok-skipped.ensures c.deref-2.ensures.value skipped c.in_err-bound.ensures.refusal.0 c.in_err-bound.ensures.refusal.1)
 
-pub told-requires-2 : goal.told-requires-2
-told-requires-2 c =
+pub zones_passing-requires-2 : goal.zones_passing-requires-2
+zones_passing-requires-2 c =
     let m = c.args.map.now in
     let long : length c.deref.result.now ≡ length m.rows = c.deref.ensures.len ∙ c.in_ok-all.ensures.len ∙ c.len.ensures in
     let skipped = told_long (option_copied c.args.falsifier) m c.deref.result.now c.in_ok-skipped.skipped.items c.in_ok-skipped.ensures long in
