@@ -1,4 +1,4 @@
-use Rattle.std.proofs.Common.{◌≡◌, List, IsTrue, ap, drop, subst, sym, take, ◌∙◌, arith}
+use Rattle.std.proofs.Common.{◌≡◌, List, IsTrue, ap, drop, map, subst, sym, take, ◌∙◌, arith}
 use Rattle.vortex_base.specs.Data.Scopes.{Named}
 use Rattle.vortex_expr.specs.Meanings.Fitting.{fits_scope}
 use Rattle.vortex_prune.specs.Part.{PartData}
@@ -6,7 +6,6 @@ use Rattle.vortex_zone_map.specs.Zone.{AreZonesOf}
 use Rattle.vortex_text.proofs.LeftLemmas.{found_by, left_first, left_long, left_scope, left_within, left_zones, ranges_of_map, ranges_there}
 use Rattle.vortex_text.proofs.QueryLemmas.{not_memory}
 use Rattle.vortex_text.specs.Batches.{IsFoundIn}
-use Rattle.vortex_rewrite.specs.Rewriting.Own.{own_rules}
 use Rattle.vortex_text.proofs.parts.PartsLeft.scan.Goals as goal
 
 pub map-requires-clause-within : goal.map-requires-clause-within
@@ -55,4 +54,4 @@ unreachable-requires c =
     let scope = left_scope k all s.place s.row c.args.self.now c.self.view_is c.args.scope.now (omega (arith, c.requires.some, c.requires.within)) c.requires.query.are_parts in
     let same : k.scope ≡ m.scope = scope ∙ sym (c.in_ok-map.ensures.scoped ∙ c.in_ok-try_clone.ensures) in
     let within = left_within k all s.place s.row c.args.self.now c.self.view_is c.args.count c.self.invariant.within in
-    not_memory c.in-Err.fault (c.in-Err.ensures.refused.memory (ranges_of_map k s.row m zones same c.in_ok-map.ensures.is_map within) c.requires.predicate (ap (own_rules _) c.builtin-rules.ensures)) c.in_default.not-Memory
+    not_memory c.in-Err.fault (c.in-Err.ensures.refused.memory (ranges_of_map k s.row m zones same c.in_ok-map.ensures.is_map within) c.requires.predicate (ap (map _) c.builtin-rules.ensures)) c.in_default.not-Memory
