@@ -60,7 +60,7 @@ pub struct Rules {
     pub own: Vec<StatsRewriteRuleRef>,
 }
 
-/// What has rules of a user. A contract names them as `⟦<Rules as OwnRules>⟧.own`.
+/// Something with rules of a user. A contract names them as `⟦<Rules as OwnRules>⟧.own`.
 pub trait OwnRules {
     ghost use Rattle.std.specs.Prelude.{List};
     ghost use Rattle.vortex_rewrite.specs.Rewriting.Lawful.{OwnRule};
