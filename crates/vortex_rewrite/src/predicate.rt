@@ -202,7 +202,7 @@ impl Predicate {
         requires { IsTrue (is_truth_aggregate aggregate) }
         ensures { Makes (tree.stat aggregate x.now) result }
     {
-        // That the operand has a type, so that the aggregate supports it.
+        // Shows that the operand has a type, so that the aggregate supports it.
         let _typed = x.dtype();
         let expression = stat(alloc, aggregate, x)?;
         Ok(Predicate { expression })
