@@ -6,6 +6,7 @@ pub mod ChunkLemmas
 pub mod MapLemmas
 pub mod NameSets
 pub mod NativeLemmas
+pub mod OffsetLemmas
 pub mod OrderLemmas
 pub mod PushLemmas
 pub mod RowLemmas

@@ -13,6 +13,7 @@ pub mod from_scalar;
 pub mod laws;
 pub mod native;
 pub mod nulls;
+mod offsets;
 pub mod primitive_array;
 pub mod pvalue;
 pub mod row;

@@ -38,7 +38,7 @@ fn make_room<T>(values: &mut Vec<T>, validity: &mut Vec<bool>) -> Result<(), All
 
 // Makes room for one more value where there is none yet.
 #[inline(always)]
-pub(crate) fn have_room<T>(values: &mut Vec<T>, validity: &mut Vec<bool>) -> Result<(), AllocError>
+fn have_room<T>(values: &mut Vec<T>, validity: &mut Vec<bool>) -> Result<(), AllocError>
     ensures values { values.new.items ≡ values.old.items }
     ensures validity { validity.new.items ≡ validity.old.items }
     ensures room { OnOk result (vec_len values.new < vec_capacity values.new) }

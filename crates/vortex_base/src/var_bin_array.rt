@@ -1,8 +1,8 @@
 //! Optional byte strings, one behind another in one heap.
-ghost use Rattle.std.specs.Prelude.{◌≡◌, ◌<◌, ◌≤◌, ◌+◌, ◌^◌, ◌++◌, ◌∷◌, [], IfOk, OnErr, OnOk, length, map, option_copied, slice_get, slice_index, take, vec_capacity, vec_len, ℕ};
-ghost use Rattle.vortex_base.specs.Data.VarBinArray.{blob_at, start_at};
+ghost use Rattle.std.specs.Prelude.{◌≡◌, ◌<◌, ◌++◌, ◌∷◌, [], IfOk, OnErr, OnOk, length, option_copied, slice_get, take};
+ghost use Rattle.vortex_base.specs.Data.VarBinArray.{blob_at};
 
-use crate::primitive_array::have_room;
+use crate::offsets::Offsets;
 use std::alloc::{AllocError, Global};
 use std::marker::Model;
 
@@ -10,7 +10,7 @@ use std::marker::Model;
 /// and which of them are there. Each begins where the one before it ends.
 #[derive(Debug, Drop)]
 pub struct VarBinArray {
-    ends: Vec<usize>,
+    ends: Offsets,
     heap: Vec<u8>,
     validity: Vec<bool>,
 }
@@ -21,29 +21,9 @@ impl Model for VarBinArray {
 
     ghost Value = { List (Option (List ℕ)) };
 
-    ghost view = { λ b. blobs b.ends.items b.heap.items b.validity.items };
+    ghost view = { λ b. blobs b.ends b.heap.items b.validity.items };
 
-    ghost invariant = { λ b. AreBlobs b.ends.items b.heap.items b.validity.items };
-}
-
-// Where the byte string at a place begins.
-#[inline]
-fn start_at(ends: &[usize], i: usize) -> usize
-    requires { i ≤ length ends.now }
-    ensures { result ≡ start_at 0 ends.now i }
-{
-    if i == 0 { 0 } else { ends[i - 1] }
-}
-
-// Puts more ends behind the ends, for which there is room, each moved up.
-fn push_shifted(ends: &mut Vec<usize>, more: &[usize], by: usize)
-    requires room { vec_len ends.old + length more.now ≤ vec_capacity ends.old }
-    requires fits { (i : ℕ) → i < length more.now → by + slice_index more.now i < 2 ^ 64 }
-    ensures { ends.new.items ≡ ends.old.items ++ map (λ e. by + e) more.now }
-{
-    for end in more {
-        ends.push_reserved(by + *end);
-    }
+    ghost invariant = { λ b. AreBlobs b.ends b.heap.items b.validity.items };
 }
 
 impl VarBinArray {
@@ -52,7 +32,7 @@ impl VarBinArray {
         ensures { result ≡ [] }
     {
         VarBinArray {
-            ends: Vec::new(alloc),
+            ends: Offsets::new(alloc),
             heap: Vec::new(alloc),
             validity: Vec::new(alloc),
         }
@@ -63,7 +43,7 @@ impl VarBinArray {
         ensures empty { IfOk result (λ blobs. blobs ≡ []) }
         ensures memory { OnErr result (0 < count) }
     {
-        let ends = Vec::with_capacity(alloc, count)?;
+        let ends = Offsets::with_capacity(alloc, count)?;
         let heap = Vec::new(alloc);
         let validity = Vec::with_capacity(alloc, count)?;
         Ok(VarBinArray {
@@ -78,13 +58,13 @@ impl VarBinArray {
     pub fn len(&self) -> usize
         ensures { result ≡ length self.now }
     {
-        self.ends.len()
+        self.validity.len()
     }
 
     /// The allocator of the byte strings.
     #[inline]
     pub fn allocator(&self) -> Global {
-        *self.ends.allocator()
+        *self.heap.allocator()
     }
 
     /// The byte string at a place, `None` for null and past the end.
@@ -93,8 +73,7 @@ impl VarBinArray {
         ensures { option_copied result ≡ blob_at (slice_get self.now i) }
     {
         if i < self.validity.len() && self.validity[i] {
-            let start = start_at(&self.ends, i);
-            let end = self.ends[i];
+            let (start, end) = self.ends.range(i);
             Some(&self.heap[start..end])
         } else {
             None
@@ -107,9 +86,13 @@ impl VarBinArray {
         ensures pushed { OnOk result (self.new ≡ self.old ++ option_copied value.entry ∷ []) }
         ensures refused { OnErr result (self.new ≡ self.old) }
     {
-        have_room(&mut self.ends, &mut self.validity)?;
+        self.validity.reserve(1)?;
+        let start = self.heap.len();
         self.heap.extend_from_slice(value.unwrap_or(&[]))?;
-        self.ends.push_reserved(self.heap.len());
+        if self.ends.push(self.heap.len()).is_err() {
+            self.heap.truncate(start);
+            return Err(AllocError);
+        }
         self.validity.push_reserved(value.is_some());
         Ok(())
     }
@@ -119,11 +102,14 @@ impl VarBinArray {
         ensures extended { OnOk result (self.new ≡ self.old ++ others.now) }
         ensures refused { OnErr result (self.new ≡ self.old) }
     {
-        self.ends.reserve(others.ends.len())?;
         self.validity.reserve(others.validity.len())?;
         let by = self.heap.len();
         self.heap.extend_from_slice(&others.heap)?;
-        push_shifted(&mut self.ends, &others.ends, by);
+        let stop = self.heap.len();
+        if self.ends.extend_from(&others.ends, by, stop).is_err() {
+            self.heap.truncate(by);
+            return Err(AllocError);
+        }
         let _ = self.validity.extend_from_slice(&others.validity);
         Ok(())
     }
@@ -132,8 +118,8 @@ impl VarBinArray {
     pub fn truncate(&mut self, len: usize)
         ensures { self.new ≡ take len self.old }
     {
-        if len < self.ends.len() {
-            let end = start_at(&self.ends, len);
+        if len < self.validity.len() {
+            let end = self.ends.start_at(len);
             self.ends.truncate(len);
             self.heap.truncate(end);
             self.validity.truncate(len);
