@@ -142,8 +142,8 @@ fn lends<T: Native + PartialEq>(column: &Column, value: T) -> bool {
     let Some(natives) = column.natives::<T>() else {
         return false;
     };
-    let (values, there) = natives.as_slices();
-    values.first() == Some(&value) && there == [true, false].as_slice()
+    let (values, validity) = natives.as_slices();
+    values.first() == Some(&value) && validity == [true, false].as_slice()
 }
 
 // Cells of the type that hold the value and null, and are made of slices.
@@ -238,13 +238,13 @@ fn values_of_another_kind_stand_beside_each_form(rt: HostRuntime) {
     }
 }
 
-fn expect_lent(rt: &impl Abort, natives: PrimitiveArray<i64>, values: &[i64], there: &[bool]) {
+fn expect_lent(rt: &impl Abort, natives: PrimitiveArray<i64>, values: &[i64], validity: &[bool]) {
     let (dtype, cells) = (number(PType::I64), ArrayData::I64(natives));
     assert!(rt; cells.fits(&dtype));
     let column = Column::new_unchecked(dtype, cells, 8);
     let natives = column.natives::<i64>().expect(rt, "natives");
     let (lent, told) = natives.as_slices();
-    assert!(rt; lent == values && told == there);
+    assert!(rt; lent == values && told == validity);
 }
 
 #[test]
@@ -257,9 +257,9 @@ fn slices_and_vectors_become_columns(rt: HostRuntime) {
     let natives = PrimitiveArray::from_vec(alloc, vector).expect(&rt, "natives");
     expect_lent(&rt, natives, &values, &[true, true, true]);
     let vector = Vec::from_slice(alloc, &values).expect(&rt, "a vector");
-    let there = Vec::from_slice(alloc, &[true, false, true]).expect(&rt, "truths");
-    assert!(rt; vector.len() == there.len());
-    let natives = PrimitiveArray::from_vecs(vector, there);
+    let validity = Vec::from_slice(alloc, &[true, false, true]).expect(&rt, "truths");
+    assert!(rt; vector.len() == validity.len());
+    let natives = PrimitiveArray::from_vecs(vector, validity);
     expect_lent(&rt, natives, &values, &[true, false, true]);
 }
 

@@ -272,14 +272,14 @@ fn told_each<N: Number>(
         → spec.told_cells aggregate (Some source.now) rows from count ≡ Ok (cell_values cells)) }
 {
     let mut numbers = Vec::with_capacity(alloc, count).ok()?;
-    let mut there = Vec::with_capacity(alloc, count).ok()?;
+    let mut validity = Vec::with_capacity(alloc, count).ok()?;
     for place in 0..count {
         let number = number_in::<N>(source, from + place)?;
         let told = kept(told_number::<N>(aggregate, number));
         numbers.push_reserved(told.0);
-        there.push_reserved(told.1);
+        validity.push_reserved(told.1);
     }
-    Some(N::into_cells(PrimitiveArray::from_vecs(numbers, there)))
+    Some(N::into_cells(PrimitiveArray::from_vecs(numbers, validity)))
 }
 
 // Whether each byte says that a value is known exactly.

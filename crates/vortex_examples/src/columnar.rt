@@ -11,21 +11,21 @@ pub fn column_of_numbers<T: Native>(
     alloc: Global,
     dtype: DType,
     values: &[T],
-    there: &[bool],
+    validity: &[bool],
 ) -> Result<Column, BaseError>
-    requires { length values.now ≡ length there.now }
+    requires { length values.now ≡ length validity.now }
     ensures { IfOk result (λ column.
-        column.values ≡ map (option_map T.scalar) (optionals values.now there.now)) }
+        column.values ≡ map (option_map T.scalar) (optionals values.now validity.now)) }
 {
-    let natives = PrimitiveArray::from_slices(alloc, values, there)?;
+    let natives = PrimitiveArray::from_slices(alloc, values, validity)?;
     Column::of_cells(dtype, T::into_cells(natives), 0)
 }
 
 // How many values are told not to be there.
-fn absent(there: &[bool]) -> usize
-    ensures { result ≡ count_by not there.now }
+fn absent(validity: &[bool]) -> usize
+    ensures { result ≡ count_by not validity.now }
 {
-    there.iter().filter(|is_there| !**is_there).count()
+    validity.iter().filter(|is_there| !**is_there).count()
 }
 
 /// How many rows of a column of numbers of a type are null, if it is kept as such, without a look
@@ -33,6 +33,6 @@ fn absent(there: &[bool]) -> usize
 pub fn nulls_of<T: Native>(column: &Column) -> Option<usize>
     ensures { IfSome result (λ count. count ≡ count_by is_none column.now.values) }
 {
-    let (_, there) = column.natives::<T>()?.as_slices();
-    Some(absent(there))
+    let (_, validity) = column.natives::<T>()?.as_slices();
+    Some(absent(validity))
 }

@@ -19,72 +19,72 @@ use vortex_expr::scalar_fn::Operator;
 
 // Whether a value that may be there compares so with another.
 #[inline]
-fn is_so<T: Native, C: Comparison>(values: &[T], there: &[bool], place: usize, number: T) -> bool
-    requires long { length values.now ≡ length there.now }
-    requires within { place < length there.now }
-    ensures { let cells = map (option_map T.scalar) (optionals values.now there.now) in
+fn is_so<T: Native, C: Comparison>(values: &[T], validity: &[bool], place: usize, number: T) -> bool
+    requires long { length values.now ≡ length validity.now }
+    requires within { place < length validity.now }
+    ensures { let cells = map (option_map T.scalar) (optionals values.now validity.now) in
         result ≡ compares_at C.operator (T.scalar number) cells place }
 {
-    there[place] & C::is_true_of(values[place].order(number))
+    validity[place] & C::is_true_of(values[place].order(number))
 }
 
 // Takes away the marks, from a place on, at which a comparison with a number isn't true. Each value
 // is looked at, so that no branch depends on a mark.
 fn keep_compared<T: Native, C: Comparison>(
     values: &[T],
-    there: &[bool],
+    validity: &[bool],
     number: T,
     from: usize,
     marks: &mut [bool],
 )
-    requires long { length values.now ≡ length there.now }
-    requires within { from + length marks.old ≤ length there.now }
-    ensures { let cells = map (option_map T.scalar) (optionals values.now there.now) in
+    requires long { length values.now ≡ length validity.now }
+    requires within { from + length marks.old ≤ length validity.now }
+    ensures { let cells = map (option_map T.scalar) (optionals values.now validity.now) in
         marks.new ≡ marked (compares_at C.operator (T.scalar number) cells) from marks.old }
 {
     for k in 0..marks.len() {
-        marks[k] = marks[k] & is_so::<T, C>(values, there, from + k, number);
+        marks[k] = marks[k] & is_so::<T, C>(values, validity, from + k, number);
     }
 }
 
 // Takes away the marks, from a place on, at which the comparison with a number isn't true.
 fn keep_natives<T: Native>(
     values: &[T],
-    there: &[bool],
+    validity: &[bool],
     operator: Operator,
     number: T,
     from: usize,
     marks: &mut [bool],
 )
-    requires long { length values.now ≡ length there.now }
-    requires within { from + length marks.old ≤ length there.now }
-    ensures { let cells = map (option_map T.scalar) (optionals values.now there.now) in
+    requires long { length values.now ≡ length validity.now }
+    requires within { from + length marks.old ≤ length validity.now }
+    ensures { let cells = map (option_map T.scalar) (optionals values.now validity.now) in
         marks.new ≡ marked (compares_at operator (T.scalar number) cells) from marks.old }
 {
     match_each_comparison!(
         operator,
-        keep_compared::<T>(values, there, number, from, marks),
+        keep_compared::<T>(values, validity, number, from, marks),
         marks.fill(false)
     )
 }
 
 // Takes away the marks, from a place on, at which a truth is set.
-fn keep_unset(there: &[bool], from: usize, marks: &mut [bool])
-    requires { from + length marks.old ≤ length there.now }
-    ensures { marks.new ≡ marked (λ i. not (slice_index_or there.now i false)) from marks.old }
+fn keep_unset(validity: &[bool], from: usize, marks: &mut [bool])
+    requires { from + length marks.old ≤ length validity.now }
+    ensures { marks.new ≡ marked (λ i. not (slice_index_or validity.now i false)) from marks.old }
 {
     for k in 0..marks.len() {
-        marks[k] = marks[k] & !there[from + k];
+        marks[k] = marks[k] & !validity[from + k];
     }
 }
 
 // Takes away the marks, from a place on, at which a truth isn't set.
-fn keep_set(there: &[bool], from: usize, marks: &mut [bool])
-    requires { from + length marks.old ≤ length there.now }
-    ensures { marks.new ≡ marked (λ i. slice_index_or there.now i false) from marks.old }
+fn keep_set(validity: &[bool], from: usize, marks: &mut [bool])
+    requires { from + length marks.old ≤ length validity.now }
+    ensures { marks.new ≡ marked (λ i. slice_index_or validity.now i false) from marks.old }
 {
     for k in 0..marks.len() {
-        marks[k] = marks[k] & there[from + k];
+        marks[k] = marks[k] & validity[from + k];
     }
 }
 
@@ -135,15 +135,15 @@ fn keep_typed<T: Native>(
     requires same { column.now.values ≡ map (option_map T.scalar) natives.now }
     ensures { marks.new ≡ marked (passes_at test.entry column.now.values) from marks.old }
 {
-    let (values, there) = natives.as_slices();
-    if from + marks.len() > there.len() {
+    let (values, validity) = natives.as_slices();
+    if from + marks.len() > validity.len() {
         return keep_values(column, test, from, marks);
     }
     match test {
-        Test::Null => keep_unset(there, from, marks),
-        Test::NotNull => keep_set(there, from, marks),
+        Test::Null => keep_unset(validity, from, marks),
+        Test::NotNull => keep_set(validity, from, marks),
         Test::Is(operator, other) => match T::of_lent(other) {
-            Some(number) => keep_natives(values, there, operator, number, from, marks),
+            Some(number) => keep_natives(values, validity, operator, number, from, marks),
             None => keep_values(column, test, from, marks),
         },
         Test::Like(_, _) => keep_values(column, test, from, marks),
@@ -199,21 +199,21 @@ pub(crate) fn keep_passing(column: &Column, test: Test<'_>, from: usize, marks: 
 // looked at once for both.
 fn keep_within<T: Native, L: Comparison, U: Comparison>(
     values: &[T],
-    there: &[bool],
+    validity: &[bool],
     low: T,
     high: T,
     from: usize,
     marks: &mut [bool],
 )
-    requires long { length values.now ≡ length there.now }
-    requires within { from + length marks.old ≤ length there.now }
-    ensures { let cells = map (option_map T.scalar) (optionals values.now there.now) in
+    requires long { length values.now ≡ length validity.now }
+    requires within { from + length marks.old ≤ length validity.now }
+    ensures { let cells = map (option_map T.scalar) (optionals values.now validity.now) in
         let test = is_between_at L.operator U.operator (T.scalar low) (T.scalar high) cells in
         marks.new ≡ marked test from marks.old }
 {
     for k in 0..marks.len() {
-        let is_above = is_so::<T, L>(values, there, from + k, low);
-        let is_below = is_so::<T, U>(values, there, from + k, high);
+        let is_above = is_so::<T, L>(values, validity, from + k, low);
+        let is_below = is_so::<T, U>(values, validity, from + k, high);
         marks[k] = marks[k] & (is_above & is_below);
     }
 }
@@ -239,8 +239,8 @@ fn keep_lying_natives<T: Native>(
     requires same { ends.column.now.values ≡ map (option_map T.scalar) natives.now }
     ensures { marks.new ≡ marked (lies_at ends.entry) from marks.old }
 {
-    let (values, there) = natives.as_slices();
-    if from + marks.len() > there.len() {
+    let (values, validity) = natives.as_slices();
+    if from + marks.len() > validity.len() {
         return keep_apart(ends, from, marks);
     }
     let (Some(low), Some(high)) = (T::of_lent(ends.low), T::of_lent(ends.high)) else {
@@ -248,16 +248,16 @@ fn keep_lying_natives<T: Native>(
     };
     match (ends.lower, ends.upper) {
         (Operator::Gt, Operator::Lt) => {
-            keep_within::<T, Above, Below>(values, there, low, high, from, marks);
+            keep_within::<T, Above, Below>(values, validity, low, high, from, marks);
         }
         (Operator::Gt, Operator::Lte) => {
-            keep_within::<T, Above, AtMost>(values, there, low, high, from, marks);
+            keep_within::<T, Above, AtMost>(values, validity, low, high, from, marks);
         }
         (Operator::Gte, Operator::Lt) => {
-            keep_within::<T, AtLeast, Below>(values, there, low, high, from, marks);
+            keep_within::<T, AtLeast, Below>(values, validity, low, high, from, marks);
         }
         (Operator::Gte, Operator::Lte) => {
-            keep_within::<T, AtLeast, AtMost>(values, there, low, high, from, marks);
+            keep_within::<T, AtLeast, AtMost>(values, validity, low, high, from, marks);
         }
         _ => keep_apart(ends, from, marks),
     }

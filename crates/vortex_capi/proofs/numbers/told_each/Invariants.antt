@@ -6,9 +6,9 @@ use Rattle.vortex_capi.proofs.numbers.told_each.Given as goal
 
 abbrev pub invariant-loop-place : goal.invariant-loop-place
 invariant-loop-place g l = record {
-  told : (rows : List ℕ) → told_cells l.aggregate (Some l.source) rows l.from l.place ≡ Ok (map (option_map g.N.Native.scalar) (optionals l.numbers.items l.there.items));
+  told : (rows : List ℕ) → told_cells l.aggregate (Some l.source) rows l.from l.place ≡ Ok (map (option_map g.N.Native.scalar) (optionals l.numbers.items l.validity.items));
   len : vec_len l.numbers ≡ l.place;
   room : vec_capacity l.numbers ≡ l.count;
-  there_len : vec_len l.there ≡ l.place;
-  there_room : vec_capacity l.there ≡ l.count;
+  validity_len : vec_len l.validity ≡ l.place;
+  validity_room : vec_capacity l.validity ≡ l.count;
 }

@@ -7,4 +7,4 @@ use Rattle.vortex_prune.proofs.scan.columns.keep_natives.Goals as goal
 pub returns-in-And : goal.returns-in-And
 returns-in-And g c =
     c.fill.ensures.after (λ y e. e)
-    ∙ marked_by_no_comparison c.args.operator (g.T.Native.scalar c.args.number) (map (option_map g.T.Native.scalar) (optionals c.args.values.now c.args.there.now)) c.args.from c.args.marks.now c.in-And.is
+    ∙ marked_by_no_comparison c.args.operator (g.T.Native.scalar c.args.number) (map (option_map g.T.Native.scalar) (optionals c.args.values.now c.args.validity.now)) c.args.from c.args.marks.now c.in-And.is

@@ -5,4 +5,4 @@ use Rattle.vortex_prune.proofs.scan.columns.keep_set.Given as goal
 
 -- the marks before this one were looked at
 abbrev pub invariant-loop-k : goal.invariant-loop-k
-invariant-loop-k l = l.marks ≡ marked (λ i. slice_index_or l.there i false) l.from (take l.k l.initial.marks) ++ drop l.k l.initial.marks
+invariant-loop-k l = l.marks ≡ marked (λ i. slice_index_or l.validity i false) l.from (take l.k l.initial.marks) ++ drop l.k l.initial.marks

@@ -7,7 +7,7 @@ use Rattle.vortex_prune.proofs.scan.columns.keep_within.Goals as goal
 
 pub loop-k-preserved : goal.loop-k-preserved
 loop-k-preserved g c =
-    let cells = map (option_map g.T.Native.scalar) (optionals c.args.values.now c.args.there.now) in
+    let cells = map (option_map g.T.Native.scalar) (optionals c.args.values.now c.args.validity.now) in
     let o = g.L.Comparison.operator in
     let p = g.U.Comparison.operator in
     let v = g.T.Native.scalar c.args.low in
@@ -18,6 +18,6 @@ loop-k-preserved g c =
 
 pub returns : goal.returns
 returns g c =
-    let cells = map (option_map g.T.Native.scalar) (optionals c.args.values.now c.args.there.now) in
+    let cells = map (option_map g.T.Native.scalar) (optionals c.args.values.now c.args.validity.now) in
     c.loop-k.invariant
     ∙ marked_all (is_between_at g.L.Comparison.operator g.U.Comparison.operator (g.T.Native.scalar c.args.low) (g.T.Native.scalar c.args.high) cells) c.args.from c.loop-k.k c.args.marks.now c.loop-k-test.false

@@ -8,4 +8,4 @@ use Rattle.vortex_prune.proofs.scan.columns.keep_within.Given as goal
 -- the marks before this one were looked at
 abbrev pub invariant-loop-k : goal.invariant-loop-k
 invariant-loop-k g l =
-    l.marks ≡ marked (is_between_at g.L.Comparison.operator g.U.Comparison.operator (g.T.Native.scalar l.low) (g.T.Native.scalar l.high) (map (option_map g.T.Native.scalar) (optionals l.values l.there))) l.from (take l.k l.initial.marks) ++ drop l.k l.initial.marks
+    l.marks ≡ marked (is_between_at g.L.Comparison.operator g.U.Comparison.operator (g.T.Native.scalar l.low) (g.T.Native.scalar l.high) (map (option_map g.T.Native.scalar) (optionals l.values l.validity))) l.from (take l.k l.initial.marks) ++ drop l.k l.initial.marks
