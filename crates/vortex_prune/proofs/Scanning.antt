@@ -18,6 +18,7 @@ pub mod RangeThere
 pub mod ScanLemmas
 pub mod ScanRefused
 pub mod SelectLemmas
+pub mod SelectedRowLemmas
 pub mod SkippedParts
 pub mod TrueRanges
 pub mod WholeScan

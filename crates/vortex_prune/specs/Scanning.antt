@@ -9,6 +9,7 @@ pub mod PartScans
 pub mod Promises
 pub mod RangeScans
 pub mod ScanRefusals
+pub mod SelectedRows
 pub mod Selection
 pub mod TrueRows
 pub mod ZoneScans

@@ -16,6 +16,7 @@ pub use scan::marks::block_size;
 pub use scan::outcome::Scan;
 pub use scan::prune::{Pruned, prune, prune_by};
 pub use scan::ranges::{scan_ranges, scan_ranges_from};
+pub use scan::selected_rows::{SelectedRows, SelectedRowsIter};
 pub use scan::verdict::Verdict;
 pub use scan::zones::scan_zones;
 pub use vortex_rewrite::expr::{all_non_null, all_null, min_max, null_count, stat, sum};

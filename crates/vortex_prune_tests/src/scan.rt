@@ -48,7 +48,7 @@ fn rules_that_claim(
 fn expect_found(rt: &impl Abort, found: Found, skipped: &[usize], selected: &[(usize, usize)]) {
     let found = found.expect(rt, "found");
     assert!(rt; found.skipped.as_slice() == skipped);
-    assert!(rt; found.selected.as_slice() == selected);
+    assert!(rt; are_rows(&found.selected, selected));
 }
 
 // The table of parts of one column `a`.

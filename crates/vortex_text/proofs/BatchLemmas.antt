@@ -157,14 +157,14 @@ module _ (p : Tree Place) where
   pub found_behind : (n : ℕ) (xs ys : List PartData) (old more new : Scan) → length xs ≡ n → IsFoundIn p xs old → IsFoundIn p ys more
       → new.skipped.items ≡ old.skipped.items ++ map (raised n) more.skipped.items
       → new.whole.items ≡ old.whole.items ++ map (raised n) more.whole.items
-      → new.selected.items ≡ old.selected.items ++ map (raised_row n) more.selected.items
+      → new.selected ≡ old.selected ++ map (raised_row n) more.selected
       → IsFoundIn p (xs ++ ys) new
   found_behind n xs ys old more new long first second skips wholes rows = record {
     skipped = skips ∙ ap (λ l. l ++ map (raised n) more.skipped.items) first.skipped ∙ ap (λ l. skipped p xs ++ map (raised n) l) second.skipped ∙ sym (skipped_behind n xs ys long);
     whole = wholes ∙ ap (λ l. l ++ map (raised n) more.whole.items) first.whole ∙ ap (λ l. whole p xs ++ map (raised n) l) second.whole ∙ sym (whole_behind n xs ys long);
-    selected = rows ∙ ap (λ l. l ++ map (raised_row n) more.selected.items) first.selected ∙ ap (λ l. selected p xs ++ map (raised_row n) l) second.selected ∙ sym (selected_behind n xs ys long);
+    selected = rows ∙ ap (λ l. l ++ map (raised_row n) more.selected) first.selected ∙ ap (λ l. selected p xs ++ map (raised_row n) l) second.selected ∙ sym (selected_behind n xs ys long);
     lossless = λ true_parts.
-        rows ∙ ap (λ l. l ++ map (raised_row n) more.selected.items) (first.lossless (all_front IsTruePart xs ys true_parts))
+        rows ∙ ap (λ l. l ++ map (raised_row n) more.selected) (first.lossless (all_front IsTruePart xs ys true_parts))
         ∙ ap (λ l. full p xs ++ map (raised_row n) l) (second.lossless (all_back IsTruePart xs ys true_parts))
         ∙ sym (full_behind n xs ys long);
   }
@@ -188,7 +188,7 @@ module _ (p : Tree Place) where
         subst (CanRise n) (sym found.whole)
         (All-weaker (λ i. i < length (map by_statistics ys)) (λ i. n + i < 2 ^ 64) fits (whole p ys) (passing_below whole_test (map by_statistics ys)))
 
-    pub selected_rise : CanRiseRows n more.selected.items
+    pub selected_rise : CanRiseRows n more.selected
     selected_rise =
         subst (CanRiseRows n) (sym found.selected)
         (All-weaker (λ (r : ℕ × ℕ). r.0 < length (map by_statistics ys)) (λ r. n + r.0 < 2 ^ 64) (λ r h. fits r.0 h) (selected p ys)

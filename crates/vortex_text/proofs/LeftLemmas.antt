@@ -92,8 +92,8 @@ module _ (p : Tree Place) (k : ChunkData) (row : ℕ) (m : MapData) (zones : Lis
   pub found_by : IsChunk k → k.scope ≡ m.scope → IsMapOf zones m → row + sum (counts_of zones) ≤ row_count k.columns
       → found.skipped.items ≡ skipped_zones (falsifier [] p) m.scope zones
       → found.whole.items ≡ whole_zones (falsifier [] p) (satisfier [] p) m.scope zones
-      → found.selected.items ≡ selected_rows (falsifier [] p) (satisfier [] p) p (statistics_answers parts)
-      → (AllByRecursion IsTruePart parts → found.selected.items ≡ full p parts)
+      → found.selected ≡ selected_rows (falsifier [] p) (satisfier [] p) p (statistics_answers parts)
+      → (AllByRecursion IsTruePart parts → found.selected ≡ full p parts)
       → IsFoundIn p parts found
   found_by is_chunk same of within skips wholes rows lossless =
       let f = falsifier [] p in

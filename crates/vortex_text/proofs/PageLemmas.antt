@@ -86,6 +86,14 @@ flat_map_parted f xs i d within =
     ap (flat_map f) (sym (take-append-drop (i + 1) xs)) ∙ flat_map-append f (take (i + 1) xs) (drop (i + 1) xs) ∙ ap (λ l. l ++ flat_map f (drop (i + 1) xs)) (flat_map_next f xs i d within)
     ∙ append_assoc (flat_map f (take i xs)) (f (get_or xs i d)) (flat_map f (drop (i + 1) xs))
 
+-- what is made of elements that are gone through: of those so far, of the next one and of the others
+pub flat_map_left : {X : Type 0} (f : X → List ℕ) (xs ys zs : List X) (x : X) → xs ≡ ys ++ x ∷ zs → flat_map f xs ≡ flat_map f ys ++ (f x ++ flat_map f zs)
+flat_map_left f xs ys zs x is = ap (flat_map f) is ∙ flat_map-append f ys (x ∷ zs)
+
+-- and of one more of them
+pub flat_map_one_more : {X : Type 0} (f : X → List ℕ) (ys : List X) (x : X) → flat_map f (ys ++ x ∷ []) ≡ flat_map f ys ++ f x
+flat_map_one_more f ys x = flat_map-append f ys (x ∷ []) ∙ ap (λ l. flat_map f ys ++ l) (append-nil (f x))
+
 -- a part's number behind its space
 pub part_parted : (part : ℕ) (space : List ℕ) → space ≡ 32 ∷ [] → part_text part ≡ space ++ decimal part
 part_parted part space is = ap (λ l. l ++ decimal part) (sym is)

@@ -11,8 +11,8 @@ use Rattle.vortex_text.specs.Program.{selected, skipped, whole}
 pub record IsFoundIn (predicate : Tree Place) (parts : List PartData) (found : Scan) : Type 0 where
   pub skipped : found.skipped.items ≡ skipped predicate parts
   pub whole : found.whole.items ≡ whole predicate parts
-  pub selected : found.selected.items ≡ selected predicate parts
-  pub lossless : AllByRecursion IsTruePart parts → found.selected.items ≡ full predicate parts
+  pub selected : found.selected ≡ selected predicate parts
+  pub lossless : AllByRecursion IsTruePart parts → found.selected ≡ full predicate parts
 
 -- the place of a part behind n others
 abbrev pub raised : ℕ → ℕ → ℕ

@@ -6,5 +6,5 @@ use Rattle.vortex_text.specs.declared.program.Refusal.{Refusal}
 
 -- the status and what is printed, of a scan or of what stands in its place
 abbrev pub said : Result Scan Refusal → ℕ × List ℕ
-said (Ok scan) = (0, scan_text scan.skipped.items scan.selected.items scan.whole.items)
+said (Ok scan) = (0, scan_text scan.skipped.items scan.selected scan.whole.items)
 said (Err refusal) = (refusal.status, string_bytes refusal.answer)

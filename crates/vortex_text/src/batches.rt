@@ -9,7 +9,7 @@ use crate::parts::PartsLeft;
 use std::alloc::{AllocError, Global};
 use vortex_base::Scope;
 use vortex_expr::BoundExpression;
-use vortex_prune::Scan;
+use vortex_prune::{Scan, SelectedRows};
 
 // Adds places of parts that stand behind some others.
 fn add_places(places: &mut Vec<usize>, more: &[usize], before: usize) -> Result<(), AllocError>
@@ -23,17 +23,12 @@ fn add_places(places: &mut Vec<usize>, more: &[usize], before: usize) -> Result<
 }
 
 // Adds rows of such parts.
-fn add_rows(
-    rows: &mut Vec<(usize, usize)>,
-    more: &[(usize, usize)],
-    before: usize,
-) -> Result<(), AllocError>
+fn add_rows(rows: &mut SelectedRows, more: &SelectedRows, before: usize) -> Result<(), AllocError>
     requires { CanRiseRows before more.now }
-    ensures { OnOk result (rows.new.items ≡ rows.old.items ++ map (raised_row before) more.now) }
+    ensures { OnOk result (rows.new ≡ rows.old ++ map (raised_row before) more.now) }
 {
-    rows.reserve(more.len())?;
-    for (part, row) in more {
-        rows.push_reserved((before + *part, *row));
+    for (part, row) in more.iter() {
+        rows.push(before + part, row)?;
     }
     Ok(())
 }
@@ -43,7 +38,7 @@ pub fn nothing_found(alloc: Global, predicate: &BoundExpression) -> Scan
     ensures { IsFoundIn predicate.now [] result }
 {
     Scan {
-        selected: Vec::new(alloc),
+        selected: SelectedRows::new(alloc),
         skipped: Vec::new(alloc),
         whole: Vec::new(alloc),
         evaluated: 0,

@@ -10,6 +10,7 @@ use crate::page::{CutOff, Front, Page};
 use crate::streams::Sink;
 use std::alloc::{AllocError, Global};
 use vortex_prune::scan::outcome::Scan;
+use vortex_prune::scan::selected_rows::SelectedRows;
 
 fn print_parts<W: Sink>(writer: &mut W, page: &mut Page, parts: &[usize]) -> Result<(), CutOff>
     ensures printed { OnOk result (Passes (W.contents writer.old) (W.contents writer.new)
@@ -40,11 +41,7 @@ fn turn_to(begin: &mut Front, begun: &mut usize, part: usize)
 }
 
 // Rows of one part stand behind one another, so what they begin with is mostly made already.
-fn print_rows<W: Sink>(
-    writer: &mut W,
-    page: &mut Page,
-    rows: &[(usize, usize)],
-) -> Result<(), CutOff>
+fn print_rows<W: Sink>(writer: &mut W, page: &mut Page, rows: &SelectedRows) -> Result<(), CutOff>
     ensures printed { OnOk result (Passes (W.contents writer.old) (W.contents writer.new)
         page.old page.new (flat_map row_text rows.now)) }
     ensures unfailed { OnOk result (HasNotFailed (W.has_failed writer.old)
@@ -54,9 +51,9 @@ fn print_rows<W: Sink>(
 {
     let mut begun = 0;
     let mut begin = Front::of_part(begun);
-    for (part, row) in rows {
-        turn_to(&mut begin, &mut begun, *part);
-        page.put_number(writer, &begin, *row)?;
+    for (part, row) in rows.iter() {
+        turn_to(&mut begin, &mut begun, part);
+        page.put_number(writer, &begin, row)?;
     }
     Ok(())
 }
@@ -84,7 +81,7 @@ fn print_part_line<W: Sink>(
 fn print_row_line<W: Sink>(
     writer: &mut W,
     page: &mut Page,
-    rows: &[(usize, usize)],
+    rows: &SelectedRows,
 ) -> Result<(), CutOff>
     ensures printed { OnOk result (Passes (W.contents writer.old) (W.contents writer.new)
         page.old page.new (line_of (codes "rows") (flat_map row_text rows.now))) }
@@ -119,12 +116,12 @@ fn print_whole<W: Sink>(writer: &mut W, page: &mut Page, parts: &[usize]) -> Res
 /// fails or takes nothing.
 pub fn print_scan<W: Sink>(writer: &mut W, scan: &Scan) -> Result<(), CutOff>
     ensures printed { OnOk result (Appends (W.contents writer.old) (W.contents writer.new)
-        (scan_text scan.now.skipped.items scan.now.selected.items scan.now.whole.items)) }
+        (scan_text scan.now.skipped.items scan.now.selected scan.now.whole.items)) }
     ensures unfailed { OnOk result (HasNotFailed (W.has_failed writer.old)
         (W.has_failed writer.new)) }
     ensures cut { OnErr result (IsCutOff (W.has_failed writer.new) (W.contents writer.old)
         (W.contents writer.new)
-        (scan_text scan.now.skipped.items scan.now.selected.items scan.now.whole.items)) }
+        (scan_text scan.now.skipped.items scan.now.selected scan.now.whole.items)) }
 {
     let mut page = Page::new();
     print_part_line(writer, &mut page, b"skipped", &scan.skipped)?;

@@ -69,10 +69,10 @@ pub fn scan_query(alloc: Global, query: Query) -> Result<Option<Scan>, AllocErro
     ensures whole { IfOk result (λ o. IfSome o
         (λ s. s.whole.items ≡ whole query.predicate query.parts)) }
     ensures selected { IfOk result (λ o. IfSome o
-        (λ s. s.selected.items ≡ selected query.predicate query.parts)) }
+        (λ s. s.selected ≡ selected query.predicate query.parts)) }
     // Where all statistics are true no row is lost.
     ensures lossless { IfOk result (λ o. IfSome o (λ s. AllByRecursion IsTruePart query.parts
-        → s.selected.items ≡ full query.predicate query.parts)) }
+        → s.selected ≡ full query.predicate query.parts)) }
 {
     let Query {
         scope,

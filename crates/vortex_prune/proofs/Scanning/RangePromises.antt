@@ -38,7 +38,7 @@ module _ (rules : List OwnRule) (p : Tree Place) (k : ChunkData) (from : ℕ) (m
   fits_map = ap (fits_scope p) (sym (same_scope_from k from m has)) ∙ fits
 
   module _ (vs : List Verdict) (rows : AreRowVerdicts (falsifier rules p) (satisfier rules p) m vs) (told : (zones : List ZoneData) → IsMapOf zones m → vs ≡ zone_verdicts (falsifier rules p) (satisfier rules p) m.scope zones) (long : length vs ≡ length m.rows) (predicate : IsTrue (is_predicate p)) (closed : is_left_open (falsifier rules p) m.rows ≡ false) (shut : IsShutIfVerdict (satisfier rules p) vs) where
-    module _ (lent : List Verdict) (ns : List ℕ) (scan : Scan) (is : lent ≡ vs) (counted : ns ≡ m.rows) (skipped : scan.skipped.items ≡ places_where is_skipped lent) (whole : scan.whole.items ≡ places_where is_whole lent) (selected : scan.selected.items ≡ ranges_by p k 0 from lent ns) (evaluated : scan.evaluated ≡ tested_by lent ns) where
+    module _ (lent : List Verdict) (ns : List ℕ) (scan : Scan) (is : lent ≡ vs) (counted : ns ≡ m.rows) (skipped : scan.skipped.items ≡ places_where is_skipped lent) (whole : scan.whole.items ≡ places_where is_whole lent) (selected : scan.selected ≡ ranges_by p k 0 from lent ns) (evaluated : scan.evaluated ≡ tested_by lent ns) where
       by_rows : lent ≡ row_verdicts (falsifier rules p) (satisfier rules p) m
       by_rows = is ∙ are_row_verdicts (falsifier rules p) (satisfier rules p) m vs rows long
 
@@ -56,9 +56,9 @@ module _ (rules : List OwnRule) (p : Tree Place) (k : ChunkData) (from : ℕ) (m
             rows_full = λ are. selected ∙ ap₂ (ranges_by p k 0 from) by_rows counted ∙ ranges_full rules p m table predicate plain fits_map k from are;
             skipped = λ zones of. skipped ∙ ap (places_where is_skipped) (is ∙ told zones of) ∙ skipped_listed f s m.scope zones;
             whole = λ zones of. whole ∙ ap (places_where is_whole) (is ∙ told zones of) ∙ whole_listed f s m.scope zones;
-            kept = λ zones of. kept_by f s p k from m zones lent ns scan.selected.items of (is ∙ told zones of) counted selected;
+            kept = λ zones of. kept_by f s p k from m zones lent ns scan.selected of (is ∙ told zones of) counted selected;
             parted = λ parts are.
-                kept_by f s p k from m (zones_of parts) lent ns scan.selected.items are.is_map (is ∙ told (zones_of parts) are.is_map) counted selected ∙ ranges_are_parts f s p k from m parts are;
+                kept_by f s p k from m (zones_of parts) lent ns scan.selected are.is_map (is ∙ told (zones_of parts) are.is_map) counted selected ∙ ranges_are_parts f s p k from m parts are;
             evaluated = λ zones of. evaluated ∙ ap₂ tested_by (is ∙ told zones of) (counted ∙ ap (λ (x : MapData). x.rows) of.same);
             predicate = predicate;
             closed = closed;

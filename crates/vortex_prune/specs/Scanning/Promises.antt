@@ -29,7 +29,7 @@ pub record ScansParts (falsifier satisfier : Option (Tree Place)) (p : Tree Plac
   -- and whole exactly if it isn't skipped and the satisfier is true of it
   pub whole : scan.whole.items ≡ whole_parts falsifier satisfier parts
   -- whether or not the answers are facts, all rows of the whole parts are selected, and the satisfying rows of the parts that are neither
-  pub kept : scan.selected.items ≡ selected_rows falsifier satisfier p parts
+  pub kept : scan.selected ≡ selected_rows falsifier satisfier p parts
   -- the rows of these were tested
   pub evaluated : scan.evaluated ≡ min (tested_rows falsifier satisfier parts) (2 ^ 64 - 1)
 
@@ -84,7 +84,7 @@ pub record ScansRanges (rules : List OwnRule) (p : Tree Place) (k : ChunkData) (
   -- they tell which zones are whole
   pub rows_whole : scan.whole.items ≡ places_where is_whole (row_verdicts (falsifier rules p) (satisfier rules p) m)
   -- they select all rows of the whole zones, and the satisfying rows of those that are neither
-  pub rows_kept : scan.selected.items ≡ ranges_by p k 0 from (row_verdicts (falsifier rules p) (satisfier rules p) m) m.rows
+  pub rows_kept : scan.selected ≡ ranges_by p k 0 from (row_verdicts (falsifier rules p) (satisfier rules p) m) m.rows
   -- the rows of the zones that are neither were tested
   pub rows_evaluated : scan.evaluated ≡ tested_by (row_verdicts (falsifier rules p) (satisfier rules p) m) m.rows
   -- whatever rows stand in a skipped zone, if its row of the table is true of them: none satisfies the predicate
@@ -92,15 +92,15 @@ pub record ScansRanges (rules : List OwnRule) (p : Tree Place) (k : ChunkData) (
   -- and of a whole one each does
   pub whole_sound : EachRowOf true p m scan.whole.items
   -- so where each row of the table is true of its range no wanted row is lost and no other is told
-  pub rows_full : AreTrueRanges k from m → scan.selected.items ≡ satisfying_ranges p k 0 from m.rows
+  pub rows_full : AreTrueRanges k from m → scan.selected ≡ satisfying_ranges p k 0 from m.rows
   -- where the map is that of zones, one is skipped exactly if the falsifier is true by its statistics
   pub skipped : (zones : List ZoneData) → IsMapOf zones m → scan.skipped.items ≡ skipped_zones (falsifier rules p) m.scope zones
   -- and whole exactly if it isn't skipped and the satisfier is
   pub whole : (zones : List ZoneData) → IsMapOf zones m → scan.whole.items ≡ whole_zones (falsifier rules p) (satisfier rules p) m.scope zones
   -- whether or not the statistics are true, all rows of the whole zones are selected, and the satisfying rows of the zones that are neither
-  pub kept : (zones : List ZoneData) → IsMapOf zones m → scan.selected.items ≡ selected_from (falsifier rules p) (satisfier rules p) p k from m.scope zones
+  pub kept : (zones : List ZoneData) → IsMapOf zones m → scan.selected ≡ selected_from (falsifier rules p) (satisfier rules p) p k from m.scope zones
   -- so they are those that a scan of the ranges as parts with their statistics selects
-  pub parted : (parts : List PartData) → AreRangesBehind k from m parts → scan.selected.items ≡ selected_rows (falsifier rules p) (satisfier rules p) p (statistics_answers parts)
+  pub parted : (parts : List PartData) → AreRangesBehind k from m parts → scan.selected ≡ selected_rows (falsifier rules p) (satisfier rules p) p (statistics_answers parts)
   -- the rows of the zones that are neither were tested
   pub evaluated : (zones : List ZoneData) → IsMapOf zones m → scan.evaluated ≡ tested_ranges (falsifier rules p) (satisfier rules p) m.scope zones
   -- what is answered is a predicate

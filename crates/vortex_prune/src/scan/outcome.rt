@@ -11,7 +11,8 @@ ghost use Rattle.vortex_prune.specs.Scanning.Selection.{rows_by, rows_tested};
 ghost use Rattle.vortex_stats.specs.declared.error.StatsError.TheVariants.{Memory};
 
 use crate::part::Part;
-use crate::scan::select::{RowRange, select, select_all};
+use crate::scan::select::{RowRange, select};
+use crate::scan::selected_rows::SelectedRows;
 use crate::scan::verdict::Verdict;
 use vortex_expr::bound_expression::BoundExpression;
 use vortex_stats::error::StatsError;
@@ -20,7 +21,7 @@ use vortex_stats::error::StatsError;
 #[derive(Debug, PartialEq, Eq, Drop)]
 pub struct Scan {
     /// The rows that satisfy the predicate, each as its part and its place there, ascending.
-    pub selected: Vec<(usize, usize)>,
+    pub selected: SelectedRows,
     /// The parts that were left out unread, ascending.
     pub skipped: Vec<usize>,
     /// The parts of which all rows were selected without a test, ascending.
@@ -46,7 +47,7 @@ impl Scan {
             ≡ self.old.whole.items ++ place_if (is_whole verdict) place) }
         ensures selected { let r = range.entry in
             let found = range_rows verdict predicate.now place r.chunk.now r.first r.rows in
-            OnOk result (self.new.selected.items ≡ self.old.selected.items ++ found) }
+            OnOk result (self.new.selected ≡ self.old.selected ++ found) }
         ensures evaluated { let tested = range_tested verdict range.entry.rows in
             OnOk result (self.new.evaluated ≡ min (self.old.evaluated + tested) (2 ^ 64 - 1)) }
         ensures memory { IfErr result (λ f. f ≡ Memory alloc_error) }
@@ -57,7 +58,7 @@ impl Scan {
             Verdict::Skipped => Ok(self.skipped.push(place)?),
             Verdict::Whole => {
                 self.whole.push(place)?;
-                select_all(&mut self.selected, place, range.rows)
+                Ok(self.selected.push_all(place, range.rows)?)
             }
             Verdict::Tested => {
                 select(
@@ -86,7 +87,7 @@ impl Scan {
         ensures whole { OnOk result (self.new.whole.items
             ≡ self.old.whole.items ++ place_if (is_whole verdict) place) }
         ensures selected { let found = rows_by verdict predicate.now place part.now.chunk in
-            OnOk result (self.new.selected.items ≡ self.old.selected.items ++ found) }
+            OnOk result (self.new.selected ≡ self.old.selected ++ found) }
         ensures evaluated { let tested = rows_tested verdict part.now.chunk in
             OnOk result (self.new.evaluated ≡ min (self.old.evaluated + tested) (2 ^ 64 - 1)) }
         ensures is_part { IsPart part.now }

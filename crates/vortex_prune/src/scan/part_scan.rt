@@ -12,6 +12,7 @@ ghost use Rattle.vortex_stats.specs.declared.error.StatsError.{StatsError};
 
 use crate::part::Part;
 use crate::scan::outcome::Scan;
+use crate::scan::selected_rows::SelectedRows;
 use crate::scan::verdict::Verdict;
 use std::alloc::Global;
 use vortex_expr::bound_expression::BoundExpression;
@@ -57,7 +58,7 @@ pub(crate) fn scan_parts<T: PartTest>(
     ensures refusal { IfErr result (IsRefusedAt (T.refuses test.old) parts.now) }
 {
     let mut scan = Scan {
-        selected: Vec::new(alloc),
+        selected: SelectedRows::new(alloc),
         skipped: Vec::new(alloc),
         whole: Vec::new(alloc),
         evaluated: 0,

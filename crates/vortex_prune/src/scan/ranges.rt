@@ -22,6 +22,7 @@ ghost use Rattle.vortex_stats.specs.declared.error.StatsError.TheVariants.{Memor
 use crate::scan::outcome::Scan;
 use crate::scan::prune::{has_table, verdicts};
 use crate::scan::select::RowRange;
+use crate::scan::selected_rows::SelectedRows;
 use crate::scan::verdict::Verdict;
 use std::alloc::Global;
 use vortex_base::chunk::Chunk;
@@ -77,7 +78,7 @@ fn scan_counts(
         scan.skipped.items ≡ places_where is_skipped verdicts.now) }
     ensures whole { IfOk result (λ scan.
         scan.whole.items ≡ places_where is_whole verdicts.now) }
-    ensures selected { IfOk result (λ scan. scan.selected.items
+    ensures selected { IfOk result (λ scan. scan.selected
         ≡ ranges_by predicate.now chunk.now 0 from verdicts.now counts.now) }
     ensures evaluated { IfOk result (λ scan.
         scan.evaluated ≡ tested_by verdicts.now counts.now) }
@@ -85,7 +86,7 @@ fn scan_counts(
 {
     let _rows = chunk.rows();
     let mut scan = Scan {
-        selected: Vec::new(alloc),
+        selected: SelectedRows::new(alloc),
         skipped: Vec::new(alloc),
         whole: Vec::new(alloc),
         evaluated: 0,
@@ -124,7 +125,7 @@ pub fn scan_ranges_from(
     // no other is told, whichever lawful rules took part.
     ensures full { IfOk result (λ scan. (parts : List PartData)
         → AreRangesBehind chunk.now first map.now parts → AllByRecursion IsTruePart parts
-        → scan.selected.items ≡ full predicate.now parts) }
+        → scan.selected ≡ full predicate.now parts) }
     // By built-in rules a predicate whose ANDs are apart skips a zone exactly if no values within
     // its bounds satisfy it.
     ensures complete { IfOk result (λ scan. (zones : List ZoneData) → IsMapOf zones map.now
@@ -176,16 +177,16 @@ pub fn scan_ranges(
     // other is told, whichever lawful rules took part.
     ensures selected { IfOk result (λ scan. (parts : List PartData)
         → AreRanges chunk.now map.now parts → AllByRecursion IsTruePart parts
-        → rows_in_chunk map.now.rows scan.selected.items
+        → rows_in_chunk map.now.rows scan.selected
         ≡ satisfying predicate.now chunk.now) }
     // The same of the ranges as parts.
     ensures full { IfOk result (λ scan. (parts : List PartData)
         → AreRanges chunk.now map.now parts → AllByRecursion IsTruePart parts
-        → scan.selected.items ≡ full predicate.now parts) }
+        → scan.selected ≡ full predicate.now parts) }
     // Whatever the table was made of: where each row of it is true of its range, the selected rows
     // are the chunk's rows that satisfy the predicate.
     ensures rows_selected { IfOk result (λ scan. AreTrueRanges chunk.now 0 map.now
-        → rows_in_chunk map.now.rows scan.selected.items
+        → rows_in_chunk map.now.rows scan.selected
         ≡ satisfying predicate.now chunk.now) }
     // By built-in rules a predicate whose ANDs are apart skips a zone exactly if no values within
     // its bounds satisfy it.

@@ -1,14 +1,13 @@
-//! The rows of one part, or of one range of a chunk, that are selected: those that satisfy the
-//! predicate, or all.
-ghost use Rattle.std.specs.Prelude.{◌≡◌, ◌+◌, ◌-◌, ◌^◌, ◌<◌, ◌≤◌, ◌++◌, true, IfErr, OnOk};
-ghost use Rattle.std.specs.Prelude.{length, min, replicate, vec_capacity, vec_len};
+//! The rows of one part, or of one range of a chunk, that satisfy the predicate.
+ghost use Rattle.std.specs.Prelude.{◌≡◌, ◌+◌, ◌-◌, ◌^◌, ◌≤◌, ◌++◌, true, IfErr, OnOk};
+ghost use Rattle.std.specs.Prelude.{min, replicate};
 ghost use Rattle.vortex_base.specs.Data.Columns.{row_count};
 ghost use Rattle.vortex_prune.specs.Scanning.Marks.{marked, marked_rows};
-ghost use Rattle.vortex_prune.specs.Scanning.RangeScans.{is_true_in, range_all, range_satisfying};
-ghost use Rattle.vortex_prune.specs.Scanning.Selection.{row_if};
+ghost use Rattle.vortex_prune.specs.Scanning.RangeScans.{is_true_in, range_satisfying};
 ghost use Rattle.vortex_rewrite.specs.Answers.{IsMemory};
 
 use crate::scan::marks::{BLOCK, Counts, Table, block_end, keep_true};
+use crate::scan::selected_rows::SelectedRows;
 use vortex_base::chunk::Chunk;
 use vortex_expr::bound_expression::BoundExpression;
 use vortex_stats::error::StatsError;
@@ -21,44 +20,9 @@ pub(crate) struct RowRange<'a> {
     pub(crate) rows: usize,
 }
 
-// Adds a row of the range at a place, if it is marked. There is room for it. It's put there in any
-// case and taken away again, for which no jump is made that depends on the mark.
-#[inline(always)]
-fn select_if(selected: &mut Vec<(usize, usize)>, mark: bool, place: usize, row: usize)
-    requires { vec_len selected.old < vec_capacity selected.old }
-    ensures selected { selected.new.items ≡ selected.old.items ++ row_if mark place row }
-    ensures len { vec_len selected.new ≤ vec_len selected.old + 1 }
-    ensures capacity { vec_capacity selected.new ≡ vec_capacity selected.old }
-{
-    let before = selected.len();
-    selected.push_reserved((place, row));
-    if !mark {
-        selected.truncate(before);
-    }
-}
-
-// Adds the marked rows of the range at a place, from one of them on.
-fn select_marked(
-    selected: &mut Vec<(usize, usize)>,
-    place: usize,
-    from: usize,
-    marks: &[bool],
-) -> Result<(), StatsError>
-    requires { from + length marks.now < 2 ^ 64 }
-    ensures selected { OnOk result (selected.new.items
-        ≡ selected.old.items ++ marked_rows place from marks.now) }
-    ensures memory { IfErr result IsMemory }
-{
-    selected.reserve(marks.len())?;
-    for k in 0..marks.len() {
-        select_if(selected, marks[k], place, from + k);
-    }
-    Ok(())
-}
-
 // Adds the satisfying rows of a block of the range at a place.
 fn select_block(
-    selected: &mut Vec<(usize, usize)>,
+    selected: &mut SelectedRows,
     place: usize,
     range: RowRange<'_>,
     predicate: &BoundExpression,
@@ -71,7 +35,7 @@ fn select_block(
     requires short { to ≤ from + 1024 }
     ensures selected { let cs = range.entry.chunk.now.columns in
         let satisfied = is_true_in predicate.now cs range.entry.first range.entry.rows in
-        OnOk result (selected.new.items ≡ selected.old.items
+        OnOk result (selected.new ≡ selected.old
         ++ marked_rows place from (marked satisfied from (replicate (to - from) true))) }
     ensures memory { IfErr result IsMemory }
 {
@@ -82,18 +46,18 @@ fn select_block(
     let mut marks = [true; BLOCK];
     let block = &mut marks[..to - from];
     keep_true(
-        *selected.allocator(),
+        selected.allocator(),
         Table { chunk, counts },
         predicate,
         first,
         block,
     );
-    select_marked(selected, place, from, block)
+    Ok(selected.push_marked(place, from, block)?)
 }
 
 // Adds the satisfying rows of the range at a place, block by block, and counts its rows.
 pub(crate) fn select(
-    selected: &mut Vec<(usize, usize)>,
+    selected: &mut SelectedRows,
     evaluated: &mut u64,
     place: usize,
     range: RowRange<'_>,
@@ -102,7 +66,7 @@ pub(crate) fn select(
     requires { range.first + range.rows ≤ row_count range.chunk.now.columns }
     ensures selected { let k = range.entry.chunk.now in
         let found = range_satisfying predicate.now place k range.entry.first range.entry.rows in
-        OnOk result (selected.new.items ≡ selected.old.items ++ found) }
+        OnOk result (selected.new ≡ selected.old ++ found) }
     ensures evaluated { OnOk result
         (evaluated.new ≡ min (evaluated.old + range.entry.rows) (2 ^ 64 - 1)) }
     ensures memory { IfErr result IsMemory }
@@ -114,23 +78,6 @@ pub(crate) fn select(
         let to = block_end(from, rows, BLOCK);
         select_block(selected, place, range, predicate, from, to)?;
         from = to;
-    }
-    Ok(())
-}
-
-// Adds all rows of the range at a place, without a look at them.
-pub(crate) fn select_all(
-    selected: &mut Vec<(usize, usize)>,
-    place: usize,
-    rows: usize,
-) -> Result<(), StatsError>
-    ensures selected { OnOk result
-        (selected.new.items ≡ selected.old.items ++ range_all place rows) }
-    ensures memory { IfErr result IsMemory }
-{
-    selected.reserve(rows)?;
-    for row in 0..rows {
-        selected.push_reserved((place, row));
     }
     Ok(())
 }

@@ -1,10 +1,10 @@
-use Rattle.std.proofs.Common.{◌≡◌, ◌++◌, ◌+◌, ◌-◌, ◌≤◌, length, map, take, vec_capacity, vec_len}
+use Rattle.std.proofs.Common.{◌≡◌, ◌++◌, map}
 use Rattle.vortex_text.specs.Batches.{raised_row}
 use Rattle.vortex_text.proofs.batches.add_rows.Given as goal
 
--- those so far stand behind the earlier ones, and there is room for the others
+-- those so far stand behind the earlier ones, and the others are left
 abbrev pub invariant-loop-part : goal.invariant-loop-part
 invariant-loop-part l = record {
-  added : l.rows.items ≡ l.fn.rows.items ++ map (raised_row l.before) (take l.part-index l.more);
-  room : vec_len l.rows + (length l.more - l.part-index) ≤ vec_capacity l.rows;
+  added : l.rows ≡ l.fn.rows ++ map (raised_row l.before) l.yielded;
+  left : l.more ≡ l.yielded ++ l.part-iterator;
 }

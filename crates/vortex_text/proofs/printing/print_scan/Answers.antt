@@ -25,7 +25,7 @@ module _ (skipped : List ℕ) (selected : List (ℕ × ℕ)) (whole : List ℕ) 
 pub returns-in_err-print_part_line-clause-cut : goal.returns-in_err-print_part_line-clause-cut
 returns-in_err-print_part_line-clause-cut g c =
     let s = c.args.scan.now.skipped.items in
-    let r = c.args.scan.now.selected.items in
+    let r = c.args.scan.now.selected in
     let w = c.args.scan.now.whole.items in
     let page = c.new-page.result in
     let cut = rw c.deref.ensures.value at c.in_err-print_part_line.ensures.cut in
@@ -34,38 +34,38 @@ returns-in_err-print_part_line-clause-cut g c =
 pub returns-in_err-print_row_line-clause-cut : goal.returns-in_err-print_row_line-clause-cut
 returns-in_err-print_row_line-clause-cut g c =
     let s = c.args.scan.now.skipped.items in
-    let r = c.args.scan.now.selected.items in
+    let r = c.args.scan.now.selected in
     let w = c.args.scan.now.whole.items in
     let first = rw c.deref.ensures.value at c.in_ok-print_part_line.ensures.printed in
-    let cut = rw c.deref-2.ensures.value at c.in_err-print_row_line.ensures.cut in
+    let cut = c.in_err-print_row_line.ensures.cut in
     on_err _ (cut_off _ _ _ _ (all s r w) c.new-page.ensures (cut_after _ _ _ _ _ _ (A s r w) (B s r w) (W s r w) _ first cut (scan_lines s r w)))
 
 pub returns-in_err-print_whole-clause-cut : goal.returns-in_err-print_whole-clause-cut
 returns-in_err-print_whole-clause-cut g c =
     let s = c.args.scan.now.skipped.items in
-    let r = c.args.scan.now.selected.items in
+    let r = c.args.scan.now.selected in
     let w = c.args.scan.now.whole.items in
     let first = rw c.deref.ensures.value at c.in_ok-print_part_line.ensures.printed in
-    let both = passes_more _ _ _ _ _ _ (A s r w) (B s r w) _ first (rw c.deref-2.ensures.value at c.in_ok-print_row_line.ensures.printed) refl in
-    let cut = rw c.deref-3.ensures.value at c.in_err-print_whole.ensures.cut in
+    let both = passes_more _ _ _ _ _ _ (A s r w) (B s r w) _ first c.in_ok-print_row_line.ensures.printed refl in
+    let cut = rw c.deref-2.ensures.value at c.in_err-print_whole.ensures.cut in
     on_err _ (cut_off _ _ _ _ (all s r w) c.new-page.ensures (cut_after _ _ _ _ _ _ (A s r w ++ B s r w) (W s r w) [] _ both cut (apart s r w ∙ ap (λ l. (A s r w ++ B s r w) ++ l) (sym (append-nil (W s r w))))))
 
 pub returns-clause-printed : goal.returns-clause-printed
 returns-clause-printed g c =
     let s = c.args.scan.now.skipped.items in
-    let r = c.args.scan.now.selected.items in
+    let r = c.args.scan.now.selected in
     let w = c.args.scan.now.whole.items in
     let first = rw c.deref.ensures.value at c.in_ok-print_part_line.ensures.printed in
-    let both = passes_more _ _ _ _ _ _ (A s r w) (B s r w) _ first (rw c.deref-2.ensures.value at c.in_ok-print_row_line.ensures.printed) refl in
-    let printed = passes_more _ _ _ _ _ _ (A s r w ++ B s r w) (W s r w) _ both (rw c.deref-3.ensures.value at c.in_ok-print_whole.ensures.printed) (apart s r w) in
+    let both = passes_more _ _ _ _ _ _ (A s r w) (B s r w) _ first c.in_ok-print_row_line.ensures.printed refl in
+    let printed = passes_more _ _ _ _ _ _ (A s r w ++ B s r w) (W s r w) _ both (rw c.deref-2.ensures.value at c.in_ok-print_whole.ensures.printed) (apart s r w) in
     ok_then c.flush.result (λ rest. passes_out _ _ _ _ _ (all s r w) c.new-page.ensures printed rest) c.flush.ensures.written
 
 pub returns-clause-cut : goal.returns-clause-cut
 returns-clause-cut g c =
     let s = c.args.scan.now.skipped.items in
-    let r = c.args.scan.now.selected.items in
+    let r = c.args.scan.now.selected in
     let w = c.args.scan.now.whole.items in
     let first = rw c.deref.ensures.value at c.in_ok-print_part_line.ensures.printed in
-    let both = passes_more _ _ _ _ _ _ (A s r w) (B s r w) _ first (rw c.deref-2.ensures.value at c.in_ok-print_row_line.ensures.printed) refl in
-    let printed = passes_more _ _ _ _ _ _ (A s r w ++ B s r w) (W s r w) _ both (rw c.deref-3.ensures.value at c.in_ok-print_whole.ensures.printed) (apart s r w) in
+    let both = passes_more _ _ _ _ _ _ (A s r w) (B s r w) _ first c.in_ok-print_row_line.ensures.printed refl in
+    let printed = passes_more _ _ _ _ _ _ (A s r w ++ B s r w) (W s r w) _ both (rw c.deref-2.ensures.value at c.in_ok-print_whole.ensures.printed) (apart s r w) in
     err_then c.flush.result (λ cut. cut_out _ _ _ _ _ _ (all s r w) c.new-page.ensures printed cut) c.flush.ensures.cut

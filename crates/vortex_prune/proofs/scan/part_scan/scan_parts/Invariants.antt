@@ -15,6 +15,6 @@ invariant-loop-place g l = record {
   told : AreToldBelow (g.T.PartTest.tells l.fn.test) l.place l.parts l.scan.skipped.items;
   skipped : (f s : Option (Tree Place)) (answers : List Answered) → TellsOf (g.T.PartTest.tells l.fn.test) f s l.parts answers → l.scan.skipped.items ≡ skipped_parts f (take l.place answers);
   whole : (f s : Option (Tree Place)) (answers : List Answered) → TellsOf (g.T.PartTest.tells l.fn.test) f s l.parts answers → l.scan.whole.items ≡ whole_parts f s (take l.place answers);
-  selected : (f s : Option (Tree Place)) (answers : List Answered) → TellsOf (g.T.PartTest.tells l.fn.test) f s l.parts answers → l.scan.selected.items ≡ selected_rows f s l.predicate (take l.place answers);
+  selected : (f s : Option (Tree Place)) (answers : List Answered) → TellsOf (g.T.PartTest.tells l.fn.test) f s l.parts answers → l.scan.selected ≡ selected_rows f s l.predicate (take l.place answers);
   evaluated : (f s : Option (Tree Place)) (answers : List Answered) → TellsOf (g.T.PartTest.tells l.fn.test) f s l.parts answers → l.scan.evaluated ≡ min (tested_rows f s (take l.place answers)) (2 ^ 64 - 1);
 }

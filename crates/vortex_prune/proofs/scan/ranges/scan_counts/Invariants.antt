@@ -11,6 +11,6 @@ invariant-loop-place l = record {
   within : l.scan.evaluated ≤ l.first;
   skipped : l.scan.skipped.items ≡ places_where is_skipped (take l.place l.verdicts);
   whole : l.scan.whole.items ≡ places_where is_whole (take l.place l.verdicts);
-  selected : l.scan.selected.items ≡ ranges_by l.predicate l.chunk 0 l.from (take l.place l.verdicts) (take l.place l.counts);
+  selected : l.scan.selected ≡ ranges_by l.predicate l.chunk 0 l.from (take l.place l.verdicts) (take l.place l.counts);
   evaluated : l.scan.evaluated ≡ tested_by (take l.place l.verdicts) (take l.place l.counts);
 }

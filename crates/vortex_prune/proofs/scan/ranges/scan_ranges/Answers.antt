@@ -12,14 +12,14 @@ returns-clause-selected g c =
     let k = c.args.chunk.now in
     let m = c.args.map.now in
     IfOk-weaker c.scan_ranges_from.result _ _
-    (λ scan full parts are are_true. chunk_is_full c.args.predicate.now k m parts scan.selected.items c.requires.plain has are (full parts are are_true))
+    (λ scan full parts are are_true. chunk_is_full c.args.predicate.now k m parts scan.selected c.requires.plain has are (full parts are are_true))
     c.scan_ranges_from.ensures.full
 
 pub returns-clause-rows_selected : goal.returns-clause-rows_selected
 returns-clause-rows_selected g c =
     let has = sym c.has_ranges.ensures ∙ c.if-not-has_ranges.false in
     IfOk-weaker c.scan_ranges_from.result _ _
-    (λ scan found are. chunk_satisfying c.args.predicate.now c.args.chunk.now c.args.map.now scan.selected.items c.requires.plain has (found.rows_full are))
+    (λ scan found are. chunk_satisfying c.args.predicate.now c.args.chunk.now c.args.map.now scan.selected c.requires.plain has (found.rows_full are))
     c.scan_ranges_from.ensures.answered
 
 pub returns-clause-refused : goal.returns-clause-refused

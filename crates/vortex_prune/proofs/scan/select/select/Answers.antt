@@ -12,5 +12,5 @@ runs-preserved c =
       within = c.block_end-to.ensures.within;
       selected =
           block_added (is_true_in c.args.predicate.now r.chunk.now.columns r.first r.rows) c.args.place from (to - from) to
-          c.select_block.new.selected.items c.args.selected.now.items c.runs.selected.items (omega (arith, c.block_end-to.ensures.after)) c.runs.invariant.selected c.in_ok-select_block.ensures.selected;
+          c.select_block.new.selected c.args.selected.now c.runs.selected (omega (arith, c.block_end-to.ensures.after)) c.runs.invariant.selected c.in_ok-select_block.ensures.selected;
     }

@@ -7,7 +7,7 @@ use Rattle.vortex_prune.proofs.scan.select.select.Given as goal
 abbrev pub invariant-runs : goal.invariant-runs
 invariant-runs l = record {
   within : l.from ≤ l.range.rows;
-  selected : l.selected.items ≡ l.fn.selected.items ++ rows_below (is_true_in l.predicate l.range.chunk.now.columns l.range.first l.range.rows) l.place l.from;
+  selected : l.selected ≡ l.fn.selected ++ rows_below (is_true_in l.predicate l.range.chunk.now.columns l.range.first l.range.rows) l.place l.from;
 }
 
 abbrev pub decreases-runs : goal.decreases-runs

@@ -1,6 +1,5 @@
 use Rattle.std.proofs.Common.{◌≡◌, ◌++◌, ◌-◌, ap, arith, replicate, take, true, ◌∙◌}
 use Rattle.std.proofs.lemmas.List.{take-replicate}
-use Rattle.std.proofs.lemmas.Result.{on_ok_weaker}
 use Rattle.vortex_prune.proofs.Scanning.RangeLemmas.{marked_behind}
 use Rattle.vortex_prune.specs.Scanning.Marks.{is_true_at, marked, marked_rows}
 use Rattle.vortex_prune.specs.Scanning.RangeScans.{is_true_in}
@@ -17,6 +16,4 @@ returns-clause-selected c =
     c.keep_true.ensures
     ∙ marked_behind (is_true_at p cs (Same r.rows)) r.first c.args.from (take n (replicate 1024 true))
     ∙ ap (marked (is_true_in p cs r.first r.rows) c.args.from) (take-replicate n 1024 true (omega (arith, c.requires.short))) in
-    on_ok_weaker c.select_marked.result
-    (λ h. h ∙ ap (λ ms. c.args.selected.now.items ++ marked_rows c.args.place c.args.from ms) found)
-    c.select_marked.ensures.selected
+    c.in_ok-push_marked.ensures ∙ ap (λ ms. c.args.selected.now ++ marked_rows c.args.place c.args.from ms) found

@@ -1,0 +1,317 @@
+//! The rows that a scan selects, each as its part and its place there.
+ghost use Rattle.std.specs.Prelude.{◌≡◌, ◌==◌, ◌↔◌, ◌+◌, ◌^◌, ◌<◌, ◌≤◌, ◌++◌, ◌∷◌, []};
+ghost use Rattle.std.specs.Prelude.{IfOk, IfSome, IsTrue, OnErr, OnOk};
+ghost use Rattle.std.specs.Prelude.{length, slice_get, vec_capacity, vec_len};
+ghost use Rattle.std.specs.Cmp.{partial_equiv_from_equiv};
+ghost use Rattle.std.specs.Iterator.{YieldsFirst, item_count};
+ghost use Rattle.vortex_base.specs.Data.Exact.{exact_equivalence};
+ghost use Rattle.vortex_prune.specs.Scanning.Marks.{marked_rows};
+ghost use Rattle.vortex_prune.specs.Scanning.RangeScans.{range_all};
+ghost use Rattle.vortex_prune.specs.Scanning.SelectedRows.{rows_eq, rows_eq_is_exact, rows_of};
+ghost use Rattle.vortex_prune.specs.Scanning.Selection.{row_if};
+
+use std::alloc::{AllocError, Global};
+use std::marker::Model;
+
+/// Rows in order, each as its part and its place there. They take 8 bytes each as long as all these
+/// numbers fit 32 bits, and 16 from the first one on that doesn't.
+#[derive(Debug, Drop)]
+pub struct SelectedRows {
+    pairs: Pairs,
+}
+
+// Pairs of numbers of 32 bits, or of 64.
+#[derive(Debug, Drop)]
+enum Pairs {
+    Short(Vec<(u32, u32)>),
+    Long(Vec<(usize, usize)>),
+}
+
+impl Model for SelectedRows {
+    ghost use Rattle.std.specs.Prelude.{ℕ, List};
+    ghost use Rattle.vortex_prune.specs.Scanning.SelectedRows.{rows_of};
+
+    ghost Value = { List (ℕ × ℕ) };
+
+    ghost view = { λ s. rows_of s.pairs };
+}
+
+// A number, if it fits 32 bits.
+#[inline(always)]
+fn short(number: usize) -> Option<u32>
+    ensures { IfSome result (λ n. n ≡ number) }
+{
+    u32::try_from(number).ok()
+}
+
+// Copies of pairs in 64 bits.
+#[inline(never)]
+fn widened(alloc: Global, pairs: &[(u32, u32)]) -> Result<Vec<(usize, usize)>, AllocError>
+    ensures { IfOk result (λ wide. wide.items ≡ pairs.now) }
+{
+    let mut wide = Vec::with_capacity(alloc, pairs.len())?;
+    for (part, row) in pairs {
+        wide.push_reserved((*part as usize, *row as usize));
+    }
+    Ok(wide)
+}
+
+// Adds a row of a part, if it is marked. There is room for it. It's put there in any case and taken
+// away again, for which no jump is made that depends on the mark.
+#[inline(always)]
+fn push_if(rows: &mut Vec<(u32, u32)>, mark: bool, part: u32, row: u32)
+    requires { vec_len rows.old < vec_capacity rows.old }
+    ensures rows { rows.new.items ≡ rows.old.items ++ row_if mark part row }
+    ensures len { vec_len rows.new ≤ vec_len rows.old + 1 }
+    ensures capacity { vec_capacity rows.new ≡ vec_capacity rows.old }
+{
+    let before = rows.len();
+    rows.push_reserved((part, row));
+    if !mark {
+        rows.truncate(before);
+    }
+}
+
+// Adds the marked rows of a part, from one of them on.
+fn push_marked(
+    rows: &mut Vec<(u32, u32)>,
+    part: u32,
+    from: u32,
+    marks: &[bool],
+) -> Result<(), AllocError>
+    requires { from + length marks.now < 2 ^ 32 }
+    ensures { OnOk result (rows.new.items ≡ rows.old.items ++ marked_rows part from marks.now) }
+{
+    rows.reserve(marks.len())?;
+    for k in 0..marks.len() {
+        push_if(rows, marks[k], part, from + k as u32);
+    }
+    Ok(())
+}
+
+// Adds so many rows of a part, from the first on.
+fn push_all(rows: &mut Vec<(u32, u32)>, part: u32, count: u32) -> Result<(), AllocError>
+    ensures { OnOk result (rows.new.items ≡ rows.old.items ++ range_all part count) }
+{
+    rows.reserve(count as usize)?;
+    for row in 0..count {
+        rows.push_reserved((part, row));
+    }
+    Ok(())
+}
+
+impl SelectedRows {
+    /// No rows yet.
+    pub fn new(alloc: Global) -> SelectedRows
+        ensures { result ≡ [] }
+    {
+        SelectedRows {
+            pairs: Pairs::Short(Vec::new(alloc)),
+        }
+    }
+
+    /// The number of rows.
+    #[inline]
+    pub fn len(&self) -> usize
+        ensures { result ≡ length self.now }
+    {
+        match &self.pairs {
+            Pairs::Short(rows) => rows.len(),
+            Pairs::Long(rows) => rows.len(),
+        }
+    }
+
+    /// Whether there are no rows.
+    #[inline]
+    pub fn is_empty(&self) -> bool
+        ensures { result ≡ (length self.now == 0) }
+    {
+        match &self.pairs {
+            Pairs::Short(rows) => rows.is_empty(),
+            Pairs::Long(rows) => rows.is_empty(),
+        }
+    }
+
+    /// The row at a place, as its part and its place there; `None` past the end.
+    #[inline]
+    pub fn get(&self, i: usize) -> Option<(usize, usize)>
+        ensures { result ≡ slice_get self.now i }
+    {
+        match &self.pairs {
+            Pairs::Short(rows) => {
+                let (part, row) = rows.get(i)?;
+                Some((*part as usize, *row as usize))
+            }
+            Pairs::Long(rows) => rows.get(i).copied(),
+        }
+    }
+
+    // Adds a row in 64 bits, which all rows take from then on.
+    #[inline(never)]
+    fn push_long(&mut self, part: usize, row: usize) -> Result<(), AllocError>
+        ensures pushed { OnOk result (self.new ≡ self.old ++ (part, row) ∷ []) }
+        ensures refused { OnErr result (self.new ≡ self.old) }
+    {
+        match &mut self.pairs {
+            Pairs::Short(rows) => {
+                let mut wide = widened(*rows.allocator(), rows)?;
+                wide.push((part, row))?;
+                self.pairs = Pairs::Long(wide);
+            }
+            Pairs::Long(rows) => rows.push((part, row))?,
+        }
+        Ok(())
+    }
+
+    /// Adds a row of a part. If memory is refused, the rows are as they were.
+    #[inline]
+    pub fn push(&mut self, part: usize, row: usize) -> Result<(), AllocError>
+        ensures pushed { OnOk result (self.new ≡ self.old ++ (part, row) ∷ []) }
+        ensures refused { OnErr result (self.new ≡ self.old) }
+    {
+        if let Pairs::Short(rows) = &mut self.pairs {
+            if let (Some(part), Some(row)) = (short(part), short(row)) {
+                return Ok(rows.push((part, row))?);
+            }
+        }
+        self.push_long(part, row)
+    }
+
+    // Adds a row of a part, if it is marked.
+    fn push_where(&mut self, mark: bool, part: usize, row: usize) -> Result<(), AllocError>
+        ensures { OnOk result (self.new ≡ self.old ++ row_if mark part row) }
+    {
+        if mark { self.push(part, row) } else { Ok(()) }
+    }
+
+    // Adds the marked rows of a part, from one of them on, row by row.
+    #[inline(never)]
+    fn push_each(&mut self, part: usize, from: usize, marks: &[bool]) -> Result<(), AllocError>
+        requires { from + length marks.now < 2 ^ 64 }
+        ensures { OnOk result (self.new ≡ self.old ++ marked_rows part from marks.now) }
+    {
+        for k in 0..marks.len() {
+            self.push_where(marks[k], part, from + k)?;
+        }
+        Ok(())
+    }
+
+    // Adds the marked rows of a part, from one of them on.
+    pub(crate) fn push_marked(
+        &mut self,
+        part: usize,
+        from: usize,
+        marks: &[bool],
+    ) -> Result<(), AllocError>
+        requires { from + length marks.now < 2 ^ 64 }
+        ensures { OnOk result (self.new ≡ self.old ++ marked_rows part from marks.now) }
+    {
+        if let Pairs::Short(rows) = &mut self.pairs {
+            if let (Some(part), Some(_)) = (short(part), short(from + marks.len())) {
+                return push_marked(rows, part, from as u32, marks);
+            }
+        }
+        self.push_each(part, from, marks)
+    }
+
+    // Adds so many rows of a part, from the first on, row by row.
+    #[inline(never)]
+    fn push_all_each(&mut self, part: usize, count: usize) -> Result<(), AllocError>
+        ensures { OnOk result (self.new ≡ self.old ++ range_all part count) }
+    {
+        for row in 0..count {
+            self.push(part, row)?;
+        }
+        Ok(())
+    }
+
+    // Adds so many rows of a part, from the first on.
+    pub(crate) fn push_all(&mut self, part: usize, count: usize) -> Result<(), AllocError>
+        ensures { OnOk result (self.new ≡ self.old ++ range_all part count) }
+    {
+        if let Pairs::Short(rows) = &mut self.pairs {
+            if let (Some(part), Some(count)) = (short(part), short(count)) {
+                return push_all(rows, part, count);
+            }
+        }
+        self.push_all_each(part, count)
+    }
+
+    /// The rows in order.
+    #[inline]
+    pub fn iter(&self) -> SelectedRowsIter<'_>
+        ensures { result ≡ self.now }
+    {
+        SelectedRowsIter {
+            rows: self,
+            next: 0,
+        }
+    }
+
+    // The allocator of the rows.
+    pub(crate) fn allocator(&self) -> Global {
+        match &self.pairs {
+            Pairs::Short(rows) => *rows.allocator(),
+            Pairs::Long(rows) => *rows.allocator(),
+        }
+    }
+}
+
+/// The selected rows that are left to go through, in order.
+#[derive(Drop)]
+pub struct SelectedRowsIter<'a> {
+    rows: &'a SelectedRows,
+    next: usize,
+}
+
+impl<'a> Model for SelectedRowsIter<'a> {
+    ghost use Rattle.std.specs.Prelude.{◌≤◌, ℕ, List, drop, length};
+
+    ghost Value = { List (ℕ × ℕ) };
+
+    ghost view = { λ s. drop s.next s.rows.now };
+
+    ghost invariant = { λ s. s.next ≤ length s.rows.now };
+}
+
+impl<'a> Iterator for SelectedRowsIter<'a> {
+    type Item = (usize, usize);
+
+    ghost next_gives = { YieldsFirst (λ s. s) };
+
+    ghost remaining = { item_count (λ s. s) };
+
+    #[inline]
+    fn next(&mut self) -> Option<(usize, usize)> {
+        // That their number is one of 64 bits.
+        let _len = self.rows.len();
+        let row = self.rows.get(self.next)?;
+        self.next += 1;
+        Some(row)
+    }
+}
+
+impl PartialEq for SelectedRows {
+    ghost eq = { rows_eq };
+
+    ghost laws = { partial_equiv_from_equiv (exact_equivalence rows_eq rows_eq_is_exact) };
+
+    fn eq(&self, other: &SelectedRows) -> bool
+        ensures value { result ≡ rows_eq self.now other.now }
+        ensures same { IsTrue result ↔ (self.now ≡ other.now) }
+    {
+        if self.len() != other.len() {
+            return false;
+        }
+        for i in 0..self.len() {
+            if self.get(i) != other.get(i) {
+                return false;
+            }
+        }
+        true
+    }
+}
+
+impl Eq for SelectedRows {
+    ghost laws = { exact_equivalence rows_eq rows_eq_is_exact };
+}
