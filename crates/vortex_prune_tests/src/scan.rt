@@ -15,6 +15,7 @@ mod faults;
 mod likes;
 mod own;
 mod ranges;
+mod selected_rows;
 mod typed;
 mod uses;
 
