@@ -283,7 +283,7 @@ impl<'a> Iterator for SelectedRowsIter<'a> {
 
     #[inline]
     fn next(&mut self) -> Option<(usize, usize)> {
-        // That their number is one of 64 bits.
+        // Shows that their number is one of 64 bits.
         let _len = self.rows.len();
         let row = self.rows.get(self.next)?;
         self.next += 1;
