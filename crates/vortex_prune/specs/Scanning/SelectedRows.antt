@@ -1,15 +1,8 @@
--- The rows that a scan selects, as they are kept.
+-- Which rows that a scan selects are the same.
 use Rattle.std.specs.Prelude.{◌&&◌, ◌==◌, ℕ, Bool, List}
 use Rattle.std.proofs.Common.{ap, refl, rules}
 use lib.Pointwise.{pointwise, pointwise_decides}
 use Rattle.vortex_base.specs.Data.Exact.{IsExact, both_true}
-use Rattle.vortex_prune.specs.declared.scan.selected_rows.Pairs.{Pairs}
-use Rattle.vortex_prune.specs.declared.scan.selected_rows.Pairs.TheVariants.{Short, Long}
-
--- each as its part and its place there
-abbrev pub rows_of : Pairs → List (ℕ × ℕ)
-rows_of (Short rows) = rows.items
-rows_of (Long rows) = rows.items
 
 -- two are the same row
 abbrev pub row_eq : ℕ × ℕ → ℕ × ℕ → Bool

@@ -1,13 +1,13 @@
 //! The rows that a scan selects, each as its part and its place there.
 ghost use Rattle.std.specs.Prelude.{◌≡◌, ◌==◌, ◌↔◌, ◌+◌, ◌^◌, ◌<◌, ◌≤◌, ◌++◌, ◌∷◌, []};
-ghost use Rattle.std.specs.Prelude.{IfOk, IfSome, IsTrue, OnErr, OnOk};
-ghost use Rattle.std.specs.Prelude.{length, slice_get, vec_capacity, vec_len};
+ghost use Rattle.std.specs.Prelude.{IsTrue, OnErr, OnOk};
+ghost use Rattle.std.specs.Prelude.{length, nat_lt, slice_get, vec_capacity, vec_len};
 ghost use Rattle.std.specs.Cmp.{partial_equiv_from_equiv};
 ghost use Rattle.std.specs.Iterator.{YieldsFirst, item_count};
 ghost use Rattle.vortex_base.specs.Data.Exact.{exact_equivalence};
 ghost use Rattle.vortex_prune.specs.Scanning.Marks.{marked_rows};
 ghost use Rattle.vortex_prune.specs.Scanning.RangeScans.{range_all};
-ghost use Rattle.vortex_prune.specs.Scanning.SelectedRows.{rows_eq, rows_eq_is_exact, rows_of};
+ghost use Rattle.vortex_prune.specs.Scanning.SelectedRows.{rows_eq, rows_eq_is_exact};
 ghost use Rattle.vortex_prune.specs.Scanning.Selection.{row_if};
 
 use std::alloc::{AllocError, Global};
@@ -17,43 +17,24 @@ use std::marker::Model;
 /// numbers fit 32 bits, and 16 from the first one on that doesn't.
 #[derive(Debug, Drop)]
 pub struct SelectedRows {
-    pairs: Pairs,
-}
-
-// Pairs of numbers of 32 bits, or of 64.
-#[derive(Debug, Drop)]
-enum Pairs {
-    Short(Vec<(u32, u32)>),
-    Long(Vec<(usize, usize)>),
+    short: Vec<(u32, u32)>,
+    long: Vec<(usize, usize)>,
 }
 
 impl Model for SelectedRows {
-    ghost use Rattle.std.specs.Prelude.{ℕ, List};
-    ghost use Rattle.vortex_prune.specs.Scanning.SelectedRows.{rows_of};
+    ghost use Rattle.std.specs.Prelude.{◌++◌, ℕ, List};
 
     ghost Value = { List (ℕ × ℕ) };
 
-    ghost view = { λ s. rows_of s.pairs };
+    ghost view = { λ s. s.short.items ++ s.long.items };
 }
 
-// A number, if it fits 32 bits.
+// Whether a number fits 32 bits.
 #[inline(always)]
-fn short(number: usize) -> Option<u32>
-    ensures { IfSome result (λ n. n ≡ number) }
+fn is_short(number: usize) -> bool
+    ensures { result ≡ nat_lt number (2 ^ 32) }
 {
-    u32::try_from(number).ok()
-}
-
-// Copies of pairs in 64 bits.
-#[inline(never)]
-fn widened(alloc: Global, pairs: &[(u32, u32)]) -> Result<Vec<(usize, usize)>, AllocError>
-    ensures { IfOk result (λ wide. wide.items ≡ pairs.now) }
-{
-    let mut wide = Vec::with_capacity(alloc, pairs.len())?;
-    for (part, row) in pairs {
-        wide.push_reserved((*part as usize, *row as usize));
-    }
-    Ok(wide)
+    number <= u32::MAX as usize
 }
 
 // Adds a row of a part, if it is marked. There is room for it. It's put there in any case and taken
@@ -106,7 +87,8 @@ impl SelectedRows {
         ensures { result ≡ [] }
     {
         SelectedRows {
-            pairs: Pairs::Short(Vec::new(alloc)),
+            short: Vec::new(alloc),
+            long: Vec::new(alloc),
         }
     }
 
@@ -115,10 +97,7 @@ impl SelectedRows {
     pub fn len(&self) -> usize
         ensures { result ≡ length self.now }
     {
-        match &self.pairs {
-            Pairs::Short(rows) => rows.len(),
-            Pairs::Long(rows) => rows.len(),
-        }
+        self.short.len() + self.long.len()
     }
 
     /// Whether there are no rows.
@@ -126,10 +105,7 @@ impl SelectedRows {
     pub fn is_empty(&self) -> bool
         ensures { result ≡ (length self.now == 0) }
     {
-        match &self.pairs {
-            Pairs::Short(rows) => rows.is_empty(),
-            Pairs::Long(rows) => rows.is_empty(),
-        }
+        self.len() == 0
     }
 
     /// The row at a place, as its part and its place there; `None` past the end.
@@ -137,29 +113,21 @@ impl SelectedRows {
     pub fn get(&self, i: usize) -> Option<(usize, usize)>
         ensures { result ≡ slice_get self.now i }
     {
-        match &self.pairs {
-            Pairs::Short(rows) => {
-                let (part, row) = rows.get(i)?;
-                Some((*part as usize, *row as usize))
-            }
-            Pairs::Long(rows) => rows.get(i).copied(),
+        if i < self.short.len() {
+            let (part, row) = self.short[i];
+            Some((part as usize, row as usize))
+        } else {
+            self.long.get(i - self.short.len()).copied()
         }
     }
 
-    // Adds a row in 64 bits, which all rows take from then on.
+    // Adds a row in 64 bits.
     #[inline(never)]
     fn push_long(&mut self, part: usize, row: usize) -> Result<(), AllocError>
         ensures pushed { OnOk result (self.new ≡ self.old ++ (part, row) ∷ []) }
         ensures refused { OnErr result (self.new ≡ self.old) }
     {
-        match &mut self.pairs {
-            Pairs::Short(rows) => {
-                let mut wide = widened(*rows.allocator(), rows)?;
-                wide.push((part, row))?;
-                self.pairs = Pairs::Long(wide);
-            }
-            Pairs::Long(rows) => rows.push((part, row))?,
-        }
+        self.long.push((part, row))?;
         Ok(())
     }
 
@@ -169,12 +137,12 @@ impl SelectedRows {
         ensures pushed { OnOk result (self.new ≡ self.old ++ (part, row) ∷ []) }
         ensures refused { OnErr result (self.new ≡ self.old) }
     {
-        if let Pairs::Short(rows) = &mut self.pairs {
-            if let (Some(part), Some(row)) = (short(part), short(row)) {
-                return Ok(rows.push((part, row))?);
-            }
+        if is_short(part) && is_short(row) && self.long.is_empty() {
+            self.short.push((part as u32, row as u32))?;
+            Ok(())
+        } else {
+            self.push_long(part, row)
         }
-        self.push_long(part, row)
     }
 
     // Adds a row of a part, if it is marked.
@@ -206,12 +174,11 @@ impl SelectedRows {
         requires { from + length marks.now < 2 ^ 64 }
         ensures { OnOk result (self.new ≡ self.old ++ marked_rows part from marks.now) }
     {
-        if let Pairs::Short(rows) = &mut self.pairs {
-            if let (Some(part), Some(_)) = (short(part), short(from + marks.len())) {
-                return push_marked(rows, part, from as u32, marks);
-            }
+        if is_short(part) && is_short(from + marks.len()) && self.long.is_empty() {
+            push_marked(&mut self.short, part as u32, from as u32, marks)
+        } else {
+            self.push_each(part, from, marks)
         }
-        self.push_each(part, from, marks)
     }
 
     // Adds so many rows of a part, from the first on, row by row.
@@ -229,12 +196,11 @@ impl SelectedRows {
     pub(crate) fn push_all(&mut self, part: usize, count: usize) -> Result<(), AllocError>
         ensures { OnOk result (self.new ≡ self.old ++ range_all part count) }
     {
-        if let Pairs::Short(rows) = &mut self.pairs {
-            if let (Some(part), Some(count)) = (short(part), short(count)) {
-                return push_all(rows, part, count);
-            }
+        if is_short(part) && is_short(count) && self.long.is_empty() {
+            push_all(&mut self.short, part as u32, count as u32)
+        } else {
+            self.push_all_each(part, count)
         }
-        self.push_all_each(part, count)
     }
 
     /// The rows in order.
@@ -250,10 +216,7 @@ impl SelectedRows {
 
     // The allocator of the rows.
     pub(crate) fn allocator(&self) -> Global {
-        match &self.pairs {
-            Pairs::Short(rows) => *rows.allocator(),
-            Pairs::Long(rows) => *rows.allocator(),
-        }
+        *self.short.allocator()
     }
 }
 
