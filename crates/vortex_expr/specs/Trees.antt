@@ -1,5 +1,6 @@
 -- Expressions as trees.
 pub mod Between
+pub mod Connectives
 pub mod NamedNode
 pub mod NamedNodeFalls
 pub mod Node

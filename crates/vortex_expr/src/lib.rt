@@ -18,4 +18,4 @@ pub use bound_expression::parts::Parts;
 pub use expression::Expression;
 pub use like::LikeOptions;
 pub use like_pattern::{LikePattern, successor};
-pub use scalar_fn::{BetweenOptions, ExprKind, Operator, ScalarFnId, StrictComparison};
+pub use scalar_fn::{BetweenOptions, Connective, ExprKind, Operator, ScalarFnId, StrictComparison};

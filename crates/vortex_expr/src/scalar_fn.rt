@@ -20,6 +20,51 @@ pub enum Operator {
     Or,
 }
 
+/// How the predicates of a chain are joined.
+#[derive(Clone, Copy, Debug, PartialEq, Eq)]
+pub enum Connective {
+    /// The three-valued AND.
+    And,
+    /// The three-valued OR.
+    Or,
+}
+
+impl Connective {
+    ghost use Rattle.vortex_expr.specs.Trees.Connectives.{for_truth, is_and, operator_of};
+
+    /// Its operator.
+    pub fn operator(self) -> Operator
+        ensures { result ≡ operator_of (is_and self) }
+    {
+        match self {
+            Connective::And => Operator::And,
+            Connective::Or => Operator::Or,
+        }
+    }
+
+    /// The truth that makes no difference to what it is joined with: true for AND, false for OR.
+    pub fn unit(self) -> bool
+        ensures { result ≡ is_and self }
+    {
+        match self {
+            Connective::And => true,
+            Connective::Or => false,
+        }
+    }
+
+    /// How tests of the operands are joined to one of whether the whole has a truth: by this
+    /// connective for true, and by the other one for false, since NOT (a AND b) is NOT a OR NOT b.
+    pub fn for_truth(self, wanted: bool) -> Connective
+        ensures { is_and result ≡ for_truth (is_and self) wanted }
+    {
+        if self.unit() == wanted {
+            Connective::And
+        } else {
+            Connective::Or
+        }
+    }
+}
+
 /// Whether an end of a range is left out of it.
 #[derive(Clone, Copy, Debug, PartialEq, Eq)]
 pub enum StrictComparison {
