@@ -1,5 +1,6 @@
 //! AND and OR chains, with what is said of one column in one place.
 ghost use Rattle.std.specs.Prelude.{◌≡◌, ◌<◌, ◌++◌, ◌∷◌, [], IfSome, IsTrue, None, OnOk, length, map};
+ghost use Rattle.vortex_expr.specs.Trees.Connectives.{is_and};
 ghost use Rattle.vortex_rewrite.specs.Answers.{Makes, OkOrMemory};
 ghost use Rattle.vortex_rewrite.specs.Rewriting.Predicates.{is_predicate};
 ghost use Rattle.vortex_normal.specs.Chains.{IsIndexOf, item_at};
@@ -20,7 +21,7 @@ use vortex_base::dtype::DType;
 use vortex_base::scalar::Scalar;
 use vortex_expr::bound_expression::BoundExpression;
 use vortex_expr::bound_expression::parts::Parts;
-use vortex_expr::scalar_fn::Operator;
+use vortex_expr::scalar_fn::{Connective, Operator};
 use vortex_rewrite::predicate::Predicate;
 use vortex_stats::error::StatsError;
 
@@ -44,10 +45,14 @@ pub(crate) enum Item<'a> {
 }
 
 // The predicate that what is said of a column is.
-fn said_test(alloc: Global, is_and: bool, said: Values<'_>) -> Result<Predicate, StatsError>
+fn said_test(
+    alloc: Global,
+    connective: Connective,
+    said: Values<'_>,
+) -> Result<Predicate, StatsError>
     requires fits { IsTrue (item_fits (item_of (kept.Inside said))) }
     requires separate { IsTrue (is_of_separate (item_of (kept.Inside said))) }
-    ensures { Makes (spec.item_test is_and (item_of (kept.Inside said.entry))) result }
+    ensures { Makes (spec.item_test (is_and connective) (item_of (kept.Inside said.entry))) result }
 {
     let Values {
         place,
@@ -55,18 +60,18 @@ fn said_test(alloc: Global, is_and: bool, said: Values<'_>) -> Result<Predicate,
         with_null,
         sets,
     } = said;
-    let set = combined(alloc, is_and, sets)?;
+    let set = combined(alloc, connective, sets)?;
     values_test(alloc, place, dtype, with_null, &set)
 }
 
 // The predicate that an item is.
-fn item_test(alloc: Global, is_and: bool, item: Item<'_>) -> Result<Predicate, StatsError>
+fn item_test(alloc: Global, connective: Connective, item: Item<'_>) -> Result<Predicate, StatsError>
     requires fits { IsTrue (item_fits (item_of item)) }
     requires separate { IsTrue (is_of_separate (item_of item)) }
-    ensures { Makes (spec.item_test is_and (item_of item.entry)) result }
+    ensures { Makes (spec.item_test (is_and connective) (item_of item.entry)) result }
 {
     match item {
-        Item::Inside(said) => said_test(alloc, is_and, said),
+        Item::Inside(said) => said_test(alloc, connective, said),
         Item::Other(predicate) => Ok(predicate),
     }
 }
@@ -74,32 +79,36 @@ fn item_test(alloc: Global, is_and: bool, item: Item<'_>) -> Result<Predicate, S
 // The predicates that items are.
 fn item_tests(
     alloc: Global,
-    is_and: bool,
+    connective: Connective,
     items: Vec<Item<'_>>,
 ) -> Result<Vec<Predicate>, StatsError>
     requires fit { IsTrue (items_fit (map item_of items.items)) }
     requires separate { IsTrue (are_of_separate (map item_of items.items)) }
     ensures { OkOrMemory result (λ tests. tests.items
-        ≡ map (spec.item_test is_and) (map item_of items.entry.items)) }
+        ≡ map (spec.item_test (is_and connective)) (map item_of items.entry.items)) }
 {
     let mut tests = Vec::new(alloc);
     for item in items {
-        let test = item_test(alloc, is_and, item)?;
+        let test = item_test(alloc, connective, item)?;
         tests.push(test)?;
     }
     Ok(tests)
 }
 
 // The predicate that items make up, joined by AND or by OR.
-fn items_test(alloc: Global, is_and: bool, items: Vec<Item<'_>>) -> Result<Predicate, StatsError>
+fn items_test(
+    alloc: Global,
+    connective: Connective,
+    items: Vec<Item<'_>>,
+) -> Result<Predicate, StatsError>
     requires fit { IsTrue (items_fit (map item_of items.items)) }
     requires separate { IsTrue (are_of_separate (map item_of items.items)) }
-    ensures { Makes (spec.items_test is_and (map item_of items.entry.items)) result }
+    ensures { Makes (spec.items_test (is_and connective) (map item_of items.entry.items)) result }
 {
-    let tests = item_tests(alloc, is_and, items)?;
-    let joined = balanced(alloc, is_and, tests)?;
-    let truth = Predicate::truth(alloc, is_and)?;
-    connected(alloc, is_and, joined, truth)
+    let tests = item_tests(alloc, connective, items)?;
+    let joined = balanced(alloc, connective, tests)?;
+    let truth = Predicate::truth(alloc, connective.unit())?;
+    connected(alloc, connective, joined, truth)
 }
 
 fn other<'a>(e: &BoundExpression) -> Result<Item<'a>, StatsError>
@@ -196,16 +205,20 @@ impl<'a> Item<'a> {
 }
 
 // Joins to an item what is said of the same column.
-fn widen<'a>(is_and: bool, said: Values<'a>, item: &mut Item<'a>) -> Result<(), StatsError>
-    ensures { OkOrMemory result (λ _. item_of item.new ≡ spec.widened is_and said.entry.with_null
+fn widen<'a>(
+    connective: Connective,
+    said: Values<'a>,
+    item: &mut Item<'a>,
+) -> Result<(), StatsError>
+    ensures { OkOrMemory result (λ _. item_of item.new
+        ≡ spec.widened (is_and connective) said.entry.with_null
         (map set_of said.entry.sets.items) (item_of item.old)) }
 {
     match item {
         Item::Inside(here) => {
-            here.with_null = if is_and {
-                said.with_null && here.with_null
-            } else {
-                said.with_null || here.with_null
+            here.with_null = match connective {
+                Connective::And => said.with_null && here.with_null,
+                Connective::Or => said.with_null || here.with_null,
             };
             let mut sets = said.sets;
             here.sets.append(&mut sets)?;
@@ -275,10 +288,10 @@ impl<'a> Chain<'a> {
     }
 
     // Joins to the items what sets say of a column.
-    fn add_sets(&mut self, is_and: bool, said: Values<'a>) -> Result<(), StatsError>
+    fn add_sets(&mut self, connective: Connective, said: Values<'a>) -> Result<(), StatsError>
         requires index { IsIndexOf self.old.items.items self.old.places }
         ensures items { OkOrMemory result (λ _. map item_of self.new.items.items
-            ≡ spec.add_sets is_and (place_at said.entry.place said.entry.dtype)
+            ≡ spec.add_sets (is_and connective) (place_at said.entry.place said.entry.dtype)
             said.entry.with_null (map set_of said.entry.sets.items)
             (map item_of self.old.items.items)) }
         ensures index { OnOk result (IsIndexOf self.new.items.items self.new.places) }
@@ -287,7 +300,7 @@ impl<'a> Chain<'a> {
         let dtype = said.dtype;
         match self.find(place, dtype) {
             Some(found) => {
-                widen(is_and, said, &mut self.items[found])?;
+                widen(connective, said, &mut self.items[found])?;
                 Ok(())
             }
             None => {
@@ -297,14 +310,15 @@ impl<'a> Chain<'a> {
         }
     }
 
-    fn add(&mut self, is_and: bool, item: Item<'a>) -> Result<(), StatsError>
+    fn add(&mut self, connective: Connective, item: Item<'a>) -> Result<(), StatsError>
         requires index { IsIndexOf self.old.items.items self.old.places }
         ensures items { OkOrMemory result (λ _. map item_of self.new.items.items
-            ≡ spec.add is_and (item_of item.entry) (map item_of self.old.items.items)) }
+            ≡ spec.add (is_and connective) (item_of item.entry)
+            (map item_of self.old.items.items)) }
         ensures index { OnOk result (IsIndexOf self.new.items.items self.new.places) }
     {
         match item {
-            Item::Inside(said) => self.add_sets(is_and, said),
+            Item::Inside(said) => self.add_sets(connective, said),
             Item::Other(predicate) => {
                 self.items.push(Item::Other(predicate))?;
                 Ok(())
@@ -314,10 +328,14 @@ impl<'a> Chain<'a> {
 }
 
 // Says by one set of a column all that the sets of a chain say.
-fn said_once<'a>(alloc: Global, is_and: bool, said: Values<'a>) -> Result<Item<'a>, StatsError>
+fn said_once<'a>(
+    alloc: Global,
+    connective: Connective,
+    said: Values<'a>,
+) -> Result<Item<'a>, StatsError>
     requires { IsTrue (is_of_separate (item_of (kept.Inside said))) }
-    ensures { OkOrMemory result
-        (λ item. item_of item ≡ spec.lone_item is_and (item_of (kept.Inside said.entry))) }
+    ensures { OkOrMemory result (λ item. item_of item
+        ≡ spec.lone_item (is_and connective) (item_of (kept.Inside said.entry))) }
 {
     let Values {
         place,
@@ -325,77 +343,87 @@ fn said_once<'a>(alloc: Global, is_and: bool, said: Values<'a>) -> Result<Item<'
         with_null,
         sets,
     } = said;
-    let set = combined(alloc, is_and, sets)?;
+    let set = combined(alloc, connective, sets)?;
     inside(alloc, place, dtype, with_null, set)
 }
 
 // The only item of a chain as one of another.
-fn lone_item<'a>(alloc: Global, is_and: bool, item: Item<'a>) -> Result<Item<'a>, StatsError>
+fn lone_item<'a>(
+    alloc: Global,
+    connective: Connective,
+    item: Item<'a>,
+) -> Result<Item<'a>, StatsError>
     requires { IsTrue (is_of_separate (item_of item)) }
     ensures { OkOrMemory result
-        (λ lone. item_of lone ≡ spec.lone_item is_and (item_of item.entry)) }
+        (λ lone. item_of lone ≡ spec.lone_item (is_and connective) (item_of item.entry)) }
 {
     match item {
-        Item::Inside(said) => said_once(alloc, is_and, said),
+        Item::Inside(said) => said_once(alloc, connective, said),
         Item::Other(predicate) => Ok(Item::Other(predicate)),
     }
 }
 
 // The items of a whole chain as one of another.
-fn as_one<'a>(alloc: Global, is_and: bool, chain: Chain<'a>) -> Result<Item<'a>, StatsError>
+fn as_one<'a>(
+    alloc: Global,
+    connective: Connective,
+    chain: Chain<'a>,
+) -> Result<Item<'a>, StatsError>
     requires fit { IsTrue (items_fit (map item_of chain.items.items)) }
     requires separate { IsTrue (are_of_separate (map item_of chain.items.items)) }
-    ensures { OkOrMemory result
-        (λ item. item_of item ≡ spec.as_one is_and (map item_of chain.entry.items.items)) }
+    ensures { OkOrMemory result (λ item. item_of item
+        ≡ spec.as_one (is_and connective) (map item_of chain.entry.items.items)) }
 {
     let Chain { mut items, .. } = chain;
     if items.len() == 1 {
         if let Some(only) = items.pop() {
-            return lone_item(alloc, is_and, only);
+            return lone_item(alloc, connective, only);
         }
     }
-    Ok(Item::Other(items_test(alloc, is_and, items)?))
+    Ok(Item::Other(items_test(alloc, connective, items)?))
 }
 
 // Joins a predicate to the items of a chain.
 fn collect<'a>(
     alloc: Global,
-    is_and: bool,
+    connective: Connective,
     e: &'a BoundExpression,
     chain: &mut Chain<'a>,
 ) -> Result<(), StatsError>
     requires predicate { IsTrue (is_predicate e.now) }
     requires index { IsIndexOf chain.old.items.items chain.old.places }
     ensures items { OkOrMemory result (λ _. map item_of chain.new.items.items
-        ≡ spec.collected is_and e.now (map item_of chain.old.items.items)) }
+        ≡ spec.collected (is_and connective) e.now (map item_of chain.old.items.items)) }
     ensures index { OnOk result (IsIndexOf chain.new.items.items chain.new.places) }
 {
     match e.parts() {
-        Parts::Binary(Operator::And, left, right) => {
-            if is_and {
-                collect(alloc, true, left, chain)?;
-                collect(alloc, true, right, chain)
-            } else {
-                let mut inner = Chain::new(alloc);
-                collect(alloc, true, left, &mut inner)?;
-                collect(alloc, true, right, &mut inner)?;
-                chain.add(false, as_one(alloc, true, inner)?)
+        Parts::Binary(Operator::And, left, right) => match connective {
+            Connective::And => {
+                collect(alloc, Connective::And, left, chain)?;
+                collect(alloc, Connective::And, right, chain)
             }
-        }
-        Parts::Binary(Operator::Or, left, right) => {
-            if is_and {
+            Connective::Or => {
                 let mut inner = Chain::new(alloc);
-                collect(alloc, false, left, &mut inner)?;
-                collect(alloc, false, right, &mut inner)?;
-                chain.add(true, as_one(alloc, false, inner)?)
-            } else {
-                collect(alloc, false, left, chain)?;
-                collect(alloc, false, right, chain)
+                collect(alloc, Connective::And, left, &mut inner)?;
+                collect(alloc, Connective::And, right, &mut inner)?;
+                chain.add(Connective::Or, as_one(alloc, Connective::And, inner)?)
             }
-        }
+        },
+        Parts::Binary(Operator::Or, left, right) => match connective {
+            Connective::And => {
+                let mut inner = Chain::new(alloc);
+                collect(alloc, Connective::Or, left, &mut inner)?;
+                collect(alloc, Connective::Or, right, &mut inner)?;
+                chain.add(Connective::And, as_one(alloc, Connective::Or, inner)?)
+            }
+            Connective::Or => {
+                collect(alloc, Connective::Or, left, chain)?;
+                collect(alloc, Connective::Or, right, chain)
+            }
+        },
         _ => {
             let item = leaf_item(alloc, e)?;
-            chain.add(is_and, item)
+            chain.add(connective, item)
         }
     }
 }
@@ -406,7 +434,7 @@ pub(crate) fn grouped(alloc: Global, e: &BoundExpression) -> Result<Predicate, S
     ensures { Makes (spec.grouped e.now) result }
 {
     let mut chain = Chain::new(alloc);
-    collect(alloc, true, e, &mut chain)?;
+    collect(alloc, Connective::And, e, &mut chain)?;
     let Chain { items, .. } = chain;
-    items_test(alloc, true, items)
+    items_test(alloc, Connective::And, items)
 }

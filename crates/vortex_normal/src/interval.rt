@@ -2,6 +2,7 @@
 ghost use Rattle.std.specs.Prelude.{◌≡◌, ◌++◌, ◌∷◌, [], map, not};
 ghost use Rattle.std.specs.List.{flat_map};
 ghost use Rattle.std.specs.Ordering.{is_lt};
+ghost use Rattle.vortex_expr.specs.Trees.Connectives.{is_and};
 ghost use Rattle.vortex_rewrite.specs.Answers.{OkOrMemory};
 ghost use Rattle.vortex_normal.specs.Intervals as spec;
 ghost use Rattle.vortex_normal.specs.Intervals.{cut_of, interval_of, set_of};
@@ -10,7 +11,7 @@ ghost use Rattle.vortex_normal.specs.Separate.{hull, lower};
 use std::alloc::Global;
 use std::cmp::Ordering;
 use vortex_base::scalar_value::ScalarValue;
-use vortex_expr::scalar_fn::Operator;
+use vortex_expr::scalar_fn::{Connective, Operator};
 use vortex_stats::error::StatsError;
 
 /// A place between values, in their order; the values are lent by the predicate that names them.
@@ -160,34 +161,35 @@ fn complement<'a>(alloc: Global, set: Vec<Interval<'a>>) -> Result<Vec<Interval<
 
 // Appends a set's share of what the sets of an AND or OR say.
 pub(crate) fn push_share<'a>(
-    is_and: bool,
+    connective: Connective,
     set: Vec<Interval<'a>>,
     out: &mut Vec<Interval<'a>>,
 ) -> Result<(), StatsError>
     ensures { OkOrMemory result (λ _. map interval_of out.new.items ≡ map interval_of out.old.items
-        ++ spec.share is_and (map interval_of set.entry.items)) }
+        ++ spec.share (is_and connective) (map interval_of set.entry.items)) }
 {
-    if is_and {
-        push_complement(set, out)
-    } else {
-        let mut set = set;
-        out.append(&mut set)?;
-        Ok(())
+    match connective {
+        Connective::And => push_complement(set, out),
+        Connective::Or => {
+            let mut set = set;
+            out.append(&mut set)?;
+            Ok(())
+        }
     }
 }
 
 // The shares of all sets, one after another.
 fn shares<'a>(
     alloc: Global,
-    is_and: bool,
+    connective: Connective,
     sets: Vec<Vec<Interval<'a>>>,
 ) -> Result<Vec<Interval<'a>>, StatsError>
     ensures { OkOrMemory result (λ out. map interval_of out.items
-        ≡ flat_map (spec.share is_and) (map set_of sets.entry.items)) }
+        ≡ flat_map (spec.share (is_and connective)) (map set_of sets.entry.items)) }
 {
     let mut out = Vec::new(alloc);
     for set in sets {
-        push_share(is_and, set, &mut out)?;
+        push_share(connective, set, &mut out)?;
     }
     Ok(out)
 }
@@ -195,11 +197,11 @@ fn shares<'a>(
 /// The values in all of some sets, or in any: in time that is linear but for sorting.
 pub(crate) fn merged<'a>(
     alloc: Global,
-    is_and: bool,
+    connective: Connective,
     sets: Vec<Vec<Interval<'a>>>,
 ) -> Result<Vec<Interval<'a>>, StatsError>
     ensures { OkOrMemory result (λ set. map interval_of set.items
-        ≡ spec.combined is_and (map set_of sets.entry.items)) }
+        ≡ spec.combined (is_and connective) (map set_of sets.entry.items)) }
 {
     let mut sets = sets;
     if sets.len() == 1 {
@@ -207,12 +209,11 @@ pub(crate) fn merged<'a>(
             return Ok(only);
         }
     }
-    let shares = shares(alloc, is_and, sets)?;
+    let shares = shares(alloc, connective, sets)?;
     let rest = complement(alloc, shares)?;
-    if is_and {
-        Ok(rest)
-    } else {
-        complement(alloc, rest)
+    match connective {
+        Connective::And => Ok(rest),
+        Connective::Or => complement(alloc, rest),
     }
 }
 

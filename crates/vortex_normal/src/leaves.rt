@@ -6,6 +6,7 @@ ghost use Rattle.vortex_base.specs.Data.Scalars.{is_optional_value};
 ghost use Rattle.vortex_expr.specs.Meanings.Meaning.{meaning};
 ghost use Rattle.vortex_expr.specs.Meanings.Typing.{type_of};
 ghost use Rattle.vortex_base.specs.declared.types.Nullability.TheVariants.{Nullable};
+ghost use Rattle.vortex_expr.specs.Trees.Connectives.{is_and};
 ghost use Rattle.vortex_rewrite.specs.Answers.{Makes};
 ghost use Rattle.vortex_normal.specs.Pushed as normal;
 
@@ -20,7 +21,7 @@ use vortex_expr::bound;
 use vortex_expr::bound_expression::BoundExpression;
 use vortex_expr::bound_expression::parts::Parts;
 use vortex_expr::evaluate::evaluate;
-use vortex_expr::scalar_fn::Operator;
+use vortex_expr::scalar_fn::{Connective, Operator};
 use vortex_rewrite::built::{cloned, expect_memory_only};
 use vortex_rewrite::predicate::Predicate;
 use vortex_stats::error::StatsError;
@@ -193,18 +194,25 @@ fn decided(e: &BoundExpression) -> Option<bool>
 #[tactic(auto, unfolding(crate::specs::Pushed::all_of, crate::specs::Pushed::any_of))]
 pub(crate) fn connected(
     alloc: Global,
-    is_and: bool,
+    connective: Connective,
     left: Predicate,
     right: Predicate,
 ) -> Result<Predicate, StatsError>
-    ensures { Makes (normal.connected is_and left right) result }
+    ensures { Makes (normal.connected (is_and connective) left right) result }
 {
     if let Some(truth) = decided(left.expression()) {
-        return Ok(if truth == is_and { right } else { left });
+        return Ok(if truth == connective.unit() {
+            right
+        } else {
+            left
+        });
     }
     if let Some(truth) = decided(right.expression()) {
-        return Ok(if truth == is_and { left } else { right });
+        return Ok(if truth == connective.unit() {
+            left
+        } else {
+            right
+        });
     }
-    let connective = if is_and { Operator::And } else { Operator::Or };
-    Predicate::connect(alloc, connective, left, right)
+    Predicate::connect(alloc, connective.operator(), left, right)
 }

@@ -24,7 +24,7 @@ use vortex_expr::bound;
 use vortex_expr::bound_expression::BoundExpression;
 use vortex_expr::like::LikeOptions;
 use vortex_expr::like_pattern::{LikePattern, successor};
-use vortex_expr::scalar_fn::Operator;
+use vortex_expr::scalar_fn::{Connective, Operator};
 use vortex_rewrite::built::expect_memory_only;
 use vortex_rewrite::predicate::Predicate;
 use vortex_stats::error::StatsError;
@@ -88,7 +88,7 @@ fn text_range(
     let below = text_literal(alloc, below)?;
     let from = comparison(alloc, operator_as(wanted, Operator::Gte), text, &from)?;
     let below = comparison(alloc, operator_as(wanted, Operator::Lt), text, &below)?;
-    connected(alloc, wanted, from, below)
+    connected(alloc, Connective::And.for_truth(wanted), from, below)
 }
 
 fn split_last_char(text: &str) -> Option<(char, &str)>

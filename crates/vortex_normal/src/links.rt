@@ -14,7 +14,7 @@ use std::alloc::Global;
 use vortex_base::dtype::DType;
 use vortex_expr::bound_expression::BoundExpression;
 use vortex_expr::bound_expression::parts::Parts;
-use vortex_expr::scalar_fn::Operator;
+use vortex_expr::scalar_fn::{Connective, Operator};
 use vortex_rewrite::built::cloned;
 use vortex_rewrite::predicate::Predicate;
 use vortex_stats::error::StatsError;
@@ -282,6 +282,6 @@ pub(crate) fn linked(
     if found.is_empty() {
         return Ok(narrowed);
     }
-    let joined = balanced(alloc, true, found)?;
+    let joined = balanced(alloc, Connective::And, found)?;
     Predicate::connect(alloc, Operator::And, narrowed, joined)
 }

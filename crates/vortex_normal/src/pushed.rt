@@ -16,7 +16,7 @@ use vortex_base::scalar::Scalar;
 use vortex_base::scalar_value::ScalarValue;
 use vortex_expr::bound_expression::BoundExpression;
 use vortex_expr::bound_expression::parts::Parts;
-use vortex_expr::scalar_fn::{BetweenOptions, Operator};
+use vortex_expr::scalar_fn::{BetweenOptions, Connective, Operator};
 use vortex_rewrite::built::cloned;
 use vortex_rewrite::predicate::{Predicate, truth_literal};
 use vortex_stats::error::StatsError;
@@ -47,7 +47,7 @@ fn pushed_between(
     let below = operator_as(wanted, options.upper_strict.to_operator());
     let above = comparison(alloc, above, lower, x)?;
     let below = comparison(alloc, below, x, upper)?;
-    connected(alloc, wanted, above, below)
+    connected(alloc, Connective::And.for_truth(wanted), above, below)
 }
 
 /// A predicate that is satisfied where the given one has the wanted truth.
@@ -68,12 +68,12 @@ pub(crate) fn pushed(
         Parts::Binary(Operator::And, left, right) => {
             let left = pushed(alloc, wanted, left)?;
             let right = pushed(alloc, wanted, right)?;
-            connected(alloc, wanted, left, right)
+            connected(alloc, Connective::And.for_truth(wanted), left, right)
         }
         Parts::Binary(Operator::Or, left, right) => {
             let left = pushed(alloc, wanted, left)?;
             let right = pushed(alloc, wanted, right)?;
-            connected(alloc, !wanted, left, right)
+            connected(alloc, Connective::Or.for_truth(wanted), left, right)
         }
         Parts::Binary(operator, left, right) => {
             comparison(alloc, operator_as(wanted, operator), left, right)

@@ -16,7 +16,7 @@ use vortex_base::scalar::Scalar;
 use vortex_base::scalar_value::ScalarValue;
 use vortex_expr::bound;
 use vortex_expr::bound_expression::BoundExpression;
-use vortex_expr::scalar_fn::{BetweenOptions, Operator, StrictComparison};
+use vortex_expr::scalar_fn::{BetweenOptions, Connective, Operator, StrictComparison};
 use vortex_rewrite::built::expect_memory_only;
 use vortex_rewrite::predicate::Predicate;
 use vortex_stats::error::StatsError;
@@ -215,7 +215,7 @@ fn set_test(
         [first, second] => two_test(alloc, place, dtype, first, second),
         _ => {
             let tests = interval_tests(alloc, place, dtype, set)?;
-            balanced(alloc, false, tests)
+            balanced(alloc, Connective::Or, tests)
         }
     }
 }

@@ -1,6 +1,7 @@
 //! Sets of values as separate intervals, and what an AND or OR makes of them.
 ghost use Rattle.std.specs.Prelude.{◌≡◌, ◌≤◌, ◌++◌, ◌∷◌, [], IsTrue, false, length, map, true};
 ghost use Rattle.std.specs.List.Sorted.{IsPartitionPoint};
+ghost use Rattle.vortex_expr.specs.Trees.Connectives.{is_and};
 ghost use Rattle.vortex_rewrite.specs.Answers.{OkOrMemory};
 ghost use Rattle.vortex_normal.specs.Intervals as spec;
 ghost use Rattle.vortex_normal.specs.Intervals.{cut_of, interval_of, set_of};
@@ -9,6 +10,7 @@ ghost use Rattle.vortex_normal.specs.Separate.{are_separate, is_separate};
 
 use crate::interval::{Cut, Interval, merged, one, push_between, push_share};
 use std::alloc::Global;
+use vortex_expr::scalar_fn::Connective;
 use vortex_stats::error::StatsError;
 
 // How many intervals end below a cut.
@@ -45,34 +47,39 @@ fn hull_of_all<'a>(interval: Interval<'a>, others: &[Interval<'a>]) -> Interval<
 
 // Appends what becomes of an interval and those that it touches.
 fn push_left<'a>(
-    is_and: bool,
+    connective: Connective,
     hull: Interval<'a>,
     interval: Interval<'a>,
     out: &mut Vec<Interval<'a>>,
 ) -> Result<(), StatsError>
-    ensures { OkOrMemory result (λ _. map interval_of out.new.items ≡ map interval_of out.old.items
-        ++ separate.left_of is_and (interval_of hull.entry) (interval_of interval.entry)) }
+    ensures { let left = separate.left_of (is_and connective) (interval_of hull.entry)
+        (interval_of interval.entry) in OkOrMemory result
+        (λ _. map interval_of out.new.items ≡ map interval_of out.old.items ++ left) }
 {
-    if is_and {
-        push_between(hull.low, interval.low, out)?;
-        push_between(interval.high, hull.high, out)
-    } else {
-        out.push(hull)?;
-        Ok(())
+    match connective {
+        Connective::And => {
+            push_between(hull.low, interval.low, out)?;
+            push_between(interval.high, hull.high, out)
+        }
+        Connective::Or => {
+            out.push(hull)?;
+            Ok(())
+        }
     }
 }
 
 // Joins an interval to a set by OR, or what it leaves out by AND. The places of those that it
 // touches are searched by halves, and no others are compared.
 fn splice<'a>(
-    is_and: bool,
+    connective: Connective,
     interval: Interval<'a>,
     set: &mut Vec<Interval<'a>>,
 ) -> Result<(), StatsError>
     requires separate { IsTrue (is_separate (set_of set.old)) }
     requires values { spec.is_empty (interval_of interval) ≡ false }
-    ensures { let share = spec.share is_and (interval_of interval.entry ∷ []) in OkOrMemory result
-        (λ _. set_of set.new ≡ spec.combined is_and (set_of set.old ∷ share ∷ [])) }
+    ensures { let share = spec.share (is_and connective) (interval_of interval.entry ∷ []) in
+        OkOrMemory result
+        (λ _. set_of set.new ≡ spec.combined (is_and connective) (set_of set.old ∷ share ∷ [])) }
 {
     let first = ending_below(set, interval.low);
     let touched = beginning_by(&set[first..], interval.high);
@@ -80,7 +87,7 @@ fn splice<'a>(
     let hull = hull_of_all(interval, &set[first..behind]);
     let mut over = set.split_off(behind)?;
     set.truncate(first);
-    push_left(is_and, hull, interval, set)?;
+    push_left(connective, hull, interval, set)?;
     set.append(&mut over)?;
     Ok(())
 }
@@ -88,19 +95,19 @@ fn splice<'a>(
 // Joins the intervals of a set to another one by OR, or what they leave out by AND.
 fn absorb<'a>(
     alloc: Global,
-    is_and: bool,
+    connective: Connective,
     few: Vec<Interval<'a>>,
     set: &mut Vec<Interval<'a>>,
 ) -> Result<(), StatsError>
     requires few { IsTrue (is_separate (set_of few)) }
     requires set { IsTrue (is_separate (set_of set.old)) }
     ensures { OkOrMemory result (λ _. set_of set.new
-        ≡ spec.combined is_and (set_of set.old ∷ set_of few.entry ∷ [])) }
+        ≡ spec.combined (is_and connective) (set_of set.old ∷ set_of few.entry ∷ [])) }
 {
     let mut share = Vec::new(alloc);
-    push_share(is_and, few, &mut share)?;
+    push_share(connective, few, &mut share)?;
     for interval in share {
-        splice(is_and, interval, set)?;
+        splice(connective, interval, set)?;
     }
     Ok(())
 }
@@ -108,21 +115,21 @@ fn absorb<'a>(
 // The values in both of two sets, or in any, by way of that with more intervals.
 fn paired<'a>(
     alloc: Global,
-    is_and: bool,
+    connective: Connective,
     set: Vec<Interval<'a>>,
     other: Vec<Interval<'a>>,
 ) -> Result<Vec<Interval<'a>>, StatsError>
     requires set { IsTrue (is_separate (set_of set)) }
     requires other { IsTrue (is_separate (set_of other)) }
     ensures { OkOrMemory result (λ both. set_of both
-        ≡ spec.combined is_and (set_of set.entry ∷ set_of other.entry ∷ [])) }
+        ≡ spec.combined (is_and connective) (set_of set.entry ∷ set_of other.entry ∷ [])) }
 {
     let (mut set, mut other) = (set, other);
     if set.len() < other.len() {
-        absorb(alloc, is_and, set, &mut other)?;
+        absorb(alloc, connective, set, &mut other)?;
         Ok(other)
     } else {
-        absorb(alloc, is_and, other, &mut set)?;
+        absorb(alloc, connective, other, &mut set)?;
         Ok(set)
     }
 }
@@ -130,20 +137,19 @@ fn paired<'a>(
 // The values in all of some sets, or in any, by way of the one with the most intervals.
 fn spliced<'a>(
     alloc: Global,
-    is_and: bool,
+    connective: Connective,
     sets: Vec<Vec<Interval<'a>>>,
 ) -> Result<Vec<Interval<'a>>, StatsError>
     requires { IsTrue (are_separate (map set_of sets.items)) }
     ensures { OkOrMemory result
-        (λ set. set_of set ≡ spec.combined is_and (map set_of sets.entry.items)) }
+        (λ set. set_of set ≡ spec.combined (is_and connective) (map set_of sets.entry.items)) }
 {
-    let mut all = if is_and {
-        one(alloc, Cut::Lowest, Cut::Highest)?
-    } else {
-        Vec::new(alloc)
+    let mut all = match connective {
+        Connective::And => one(alloc, Cut::Lowest, Cut::Highest)?,
+        Connective::Or => Vec::new(alloc),
     };
     for set in sets {
-        all = paired(alloc, is_and, all, set)?;
+        all = paired(alloc, connective, all, set)?;
     }
     Ok(all)
 }
@@ -165,16 +171,16 @@ fn are_few(sets: &[Vec<Interval<'_>>]) -> bool {
 /// few intervals of others only those that these touch are compared, after a search by halves.
 pub(crate) fn combined<'a>(
     alloc: Global,
-    is_and: bool,
+    connective: Connective,
     sets: Vec<Vec<Interval<'a>>>,
 ) -> Result<Vec<Interval<'a>>, StatsError>
     requires { IsTrue (are_separate (map set_of sets.items)) }
     ensures { OkOrMemory result
-        (λ set. set_of set ≡ spec.combined is_and (map set_of sets.entry.items)) }
+        (λ set. set_of set ≡ spec.combined (is_and connective) (map set_of sets.entry.items)) }
 {
     if are_few(&sets) {
-        spliced(alloc, is_and, sets)
+        spliced(alloc, connective, sets)
     } else {
-        merged(alloc, is_and, sets)
+        merged(alloc, connective, sets)
     }
 }

@@ -1,6 +1,7 @@
 // Chains of as many words as a predicate may have, and refused memory.
 use super::*;
 use std::test::Fail;
+use vortex_expr::Connective;
 
 // Comparisons in a chain: of three nodes each, joined, they make 4,091.
 const LINKS: i32 = 1023;
@@ -11,23 +12,22 @@ const LEAVES: i32 = 100_000;
 // Half as many columns as a chain has links.
 const COLUMNS: usize = 511;
 
-fn joined(alloc: Global, is_and: bool, left: Built, right: Built) -> Built {
-    if is_and {
-        and(alloc, left, right)
-    } else {
-        or(alloc, left, right)
+fn joined(alloc: Global, connective: Connective, left: Built, right: Built) -> Built {
+    match connective {
+        Connective::And => and(alloc, left, right),
+        Connective::Or => or(alloc, left, right),
     }
 }
 
 // One comparison of a after the other, at the left or at the right.
-fn chain(alloc: Global, is_and: bool, test: Test, is_left: bool) -> Built {
+fn chain(alloc: Global, connective: Connective, test: Test, is_left: bool) -> Built {
     let mut chain = tested(alloc, 0, test, 0)?;
     for value in 1..LINKS {
         let link = tested(alloc, 0, test, value);
         chain = if is_left {
-            joined(alloc, is_and, Ok(chain), link)?
+            joined(alloc, connective, Ok(chain), link)?
         } else {
-            joined(alloc, is_and, link, Ok(chain))?
+            joined(alloc, connective, link, Ok(chain))?
         };
     }
     Ok(chain)
@@ -40,13 +40,13 @@ fn deep_at_each_side(rt: HostRuntime) {
         expect(
             &rt,
             alloc,
-            chain(alloc, true, Test::Gt, is_left),
+            chain(alloc, Connective::And, Test::Gt, is_left),
             a_gt(alloc, 1022),
         );
         expect(
             &rt,
             alloc,
-            chain(alloc, false, Test::Lt, is_left),
+            chain(alloc, Connective::Or, Test::Lt, is_left),
             a_lt(alloc, 1022),
         );
     }
@@ -71,7 +71,12 @@ fn deep_in_not(rt: HostRuntime) {
 fn deep_turns(alloc: Global) -> Built {
     let mut deep = tested(alloc, 1, Test::Lt, 0)?;
     for value in 0..LINKS {
-        deep = joined(alloc, value % 2 == 0, Ok(deep), a_lt(alloc, value))?;
+        let connective = if value % 2 == 0 {
+            Connective::And
+        } else {
+            Connective::Or
+        };
+        deep = joined(alloc, connective, Ok(deep), a_lt(alloc, value))?;
     }
     Ok(deep)
 }
@@ -90,7 +95,7 @@ fn deep_turns_are_answered(rt: HostRuntime) {
 // Neighbours joined by AND or by OR; the last of an odd number stays as it is.
 fn pairs(
     alloc: Global,
-    is_and: bool,
+    connective: Connective,
     tests: Vec<BoundExpression>,
 ) -> Result<Vec<BoundExpression>, StatsError> {
     let mut pairs = Vec::new(alloc);
@@ -99,7 +104,7 @@ fn pairs(
         odd = match odd {
             None => Some(test),
             Some(first) => {
-                pairs.push(joined(alloc, is_and, Ok(first), Ok(test))?)?;
+                pairs.push(joined(alloc, connective, Ok(first), Ok(test))?)?;
                 None
             }
         };
@@ -111,34 +116,39 @@ fn pairs(
 }
 
 // As many turns as join 2^17 predicates.
-fn balanced(alloc: Global, is_and: bool, tests: Vec<BoundExpression>) -> Built {
+fn balanced(alloc: Global, connective: Connective, tests: Vec<BoundExpression>) -> Built {
     let mut left = tests;
     for _ in 0..17 {
-        left = pairs(alloc, is_and, left)?;
+        left = pairs(alloc, connective, left)?;
     }
     match left.pop() {
         Some(only) => Ok(only),
-        None => truth(alloc, is_and),
+        None => truth(alloc, connective.unit()),
     }
 }
 
 // Comparisons of a with as many values, the least first, as a normal form writes them.
-fn spread(alloc: Global, is_and: bool, test: Test, count: i32) -> Built {
+fn spread(alloc: Global, connective: Connective, test: Test, count: i32) -> Built {
     let mut tests = Vec::new(alloc);
     for value in 0..count {
         tests.push(tested(alloc, 0, test, value)?)?;
     }
-    balanced(alloc, is_and, tests)
+    balanced(alloc, connective, tests)
 }
 
 #[test]
 fn many_values_and_holes(rt: HostRuntime) {
     let alloc = rt.alloc();
-    let in_order = spread(alloc, false, Test::Eq, LINKS);
-    expect(&rt, alloc, chain(alloc, false, Test::Eq, false), in_order);
+    let in_order = spread(alloc, Connective::Or, Test::Eq, LINKS);
+    expect(
+        &rt,
+        alloc,
+        chain(alloc, Connective::Or, Test::Eq, false),
+        in_order,
+    );
     let none = and(
         alloc,
-        chain(alloc, true, Test::NotEq, true),
+        chain(alloc, Connective::And, Test::NotEq, true),
         a_eq(alloc, 511),
     );
     expect(&rt, alloc, none, truth(alloc, false));
@@ -165,42 +175,66 @@ fn many_columns(rt: HostRuntime) {
         let range = between(alloc, column, num(alloc, 3), num(alloc, 9), OPEN);
         ranges.push(range.expect(&rt, "range")).expect(&rt, "push");
     }
-    expect(&rt, alloc, wide(alloc), balanced(alloc, true, ranges));
+    expect(
+        &rt,
+        alloc,
+        wide(alloc),
+        balanced(alloc, Connective::And, ranges),
+    );
 }
 
 #[test]
 fn very_many_values(rt: HostRuntime) {
     let alloc = rt.alloc();
-    let values = spread(alloc, false, Test::Eq, LEAVES);
-    expect(&rt, alloc, values, spread(alloc, false, Test::Eq, LEAVES));
+    let values = spread(alloc, Connective::Or, Test::Eq, LEAVES);
+    expect(
+        &rt,
+        alloc,
+        values,
+        spread(alloc, Connective::Or, Test::Eq, LEAVES),
+    );
 }
 
 #[test]
 fn very_many_values_are_left_out(rt: HostRuntime) {
     let alloc = rt.alloc();
-    expect_plain(&rt, alloc, spread(alloc, true, Test::NotEq, LEAVES));
+    expect_plain(
+        &rt,
+        alloc,
+        spread(alloc, Connective::And, Test::NotEq, LEAVES),
+    );
     let none = and(
         alloc,
-        spread(alloc, true, Test::NotEq, LEAVES),
+        spread(alloc, Connective::And, Test::NotEq, LEAVES),
         a_eq(alloc, 511),
     );
     expect(&rt, alloc, none, truth(alloc, false));
 }
 
 // As many columns, each compared.
-fn very_wide(alloc: Global, is_and: bool) -> Built {
+fn very_wide(alloc: Global, connective: Connective) -> Built {
     let mut columns = Vec::new(alloc);
     for place in 0..LEAVES as usize {
         columns.push(tested(alloc, place, Test::Gt, 3)?)?;
     }
-    balanced(alloc, is_and, columns)
+    balanced(alloc, connective, columns)
 }
 
 #[test]
 fn very_many_columns(rt: HostRuntime) {
     let alloc = rt.alloc();
-    expect(&rt, alloc, very_wide(alloc, true), very_wide(alloc, true));
-    expect(&rt, alloc, very_wide(alloc, false), very_wide(alloc, false));
+    expect(
+        &rt,
+        alloc,
+        very_wide(alloc, Connective::And),
+        very_wide(alloc, Connective::And),
+    );
+    expect(
+        &rt,
+        alloc,
+        very_wide(alloc, Connective::Or),
+        very_wide(alloc, Connective::Or),
+    );
 }
 
 fn is_made_or_memory(found: Built) -> bool {

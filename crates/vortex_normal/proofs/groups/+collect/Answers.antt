@@ -14,8 +14,8 @@ as_one-requires t c =
     let l = k.left.now in
     let r = k.right.now in
     let is : c.args.e.now ≡ binary And l r = cc (k.ensures, k.field-0-is) in
-    let first = c.in_ok-collect-in-Binary-And-default-default-2.ensures.items ∙ ap (λ v. collected true l (map item_of v)) c.new-inner.ensures.items in
-    let all = c.in_ok-collect-in-Binary-And-default-default-3.ensures.items ∙ ap (collected true r) first in
+    let first = c.in_ok-collect-in-Or.ensures.items ∙ ap (λ v. collected true l (map item_of v)) c.new-inner.ensures.items in
+    let all = c.in_ok-collect-in-Or-2.ensures.items ∙ ap (collected true r) first in
     record {
       fit =
           ap items_fit all
@@ -23,14 +23,14 @@ as_one-requires t c =
       separate = ap are_of_separate all ∙ both_separate true l r;
     }
 
-pub as_one-requires-then-is_and-2 : goal.as_one-requires-then-is_and-2
-as_one-requires-then-is_and-2 t c =
+pub as_one-requires-in-And-connective : goal.as_one-requires-in-And-connective
+as_one-requires-in-And-connective t c =
     let k = c.in-Binary-Or-default-default in
     let l = k.left.now in
     let r = k.right.now in
     let is : c.args.e.now ≡ binary Or l r = cc (k.ensures, k.field-0-is) in
-    let first = c.in_ok-collect-in-Binary-Or-default-default.ensures.items ∙ ap (λ v. collected false l (map item_of v)) c.new-inner-then-is_and-2.ensures.items in
-    let all = c.in_ok-collect-in-Binary-Or-default-default-2.ensures.items ∙ ap (collected false r) first in
+    let first = c.in_ok-collect-in-And-connective.ensures.items ∙ ap (λ v. collected false l (map item_of v)) c.new-inner-in-And-connective.ensures.items in
+    let all = c.in_ok-collect-in-And-connective-2.ensures.items ∙ ap (collected false r) first in
     record {
       fit =
           ap items_fit all

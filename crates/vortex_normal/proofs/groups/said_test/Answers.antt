@@ -1,4 +1,5 @@
 use Rattle.std.proofs.Common.{ap, map, ◌∙◌}
+use Rattle.vortex_expr.specs.Trees.Connectives.{is_and}
 use Rattle.vortex_normal.specs.Groups.{set_fits}
 use Rattle.vortex_normal.specs.Intervals.{interval_of, set_of}
 use Rattle.vortex_normal.proofs.Fits.{combined_fits}
@@ -9,4 +10,4 @@ values_test-requires c =
     let said = c.args.said in
     ap (λ s. set_fits said.dtype (map interval_of s)) c.deref.ensures.value
     ∙ ap (set_fits said.dtype) c.in_ok-set.ensures
-    ∙ combined_fits said.dtype c.args.is_and (map set_of said.sets.items) c.requires.fits
+    ∙ combined_fits said.dtype (is_and c.args.connective) (map set_of said.sets.items) c.requires.fits

@@ -1,5 +1,6 @@
 use Rattle.std.proofs.Common.{rules, ◌≡◌, ◌++◌, ◌∷◌, [], ap, map, sym, true, ◌∙◌}
 use Rattle.std.specs.Vec.Iter.{into_iter_items}
+use Rattle.vortex_expr.specs.Trees.Connectives.{is_and}
 use Rattle.vortex_normal.specs.Intervals.{combined, interval_of, set_of, share}
 use Rattle.vortex_normal.specs.Separate.{is_separate}
 use Rattle.vortex_normal.proofs.Absorbed.{first_of, from_share, no_items, none_left, one_taken, rest_of, taken_separate}
@@ -8,7 +9,7 @@ use Rattle.vortex_normal.proofs.ranges.absorb.Goals as goal
 
 pub loop-interval-init : goal.loop-interval-init
 loop-interval-init c =
-    let w = c.args.is_and in
+    let w = is_and c.args.connective in
     let set = set_of c.args.set.now in
     let few = set_of c.args.few in
     let shared : map interval_of (into_iter_items c.into_iter-interval-iterator.result) ≡ share w few =
@@ -29,7 +30,7 @@ splice-requires-clause-values c =
 
 pub loop-interval-preserved : goal.loop-interval-preserved
 loop-interval-preserved c =
-    let w = c.args.is_and in
+    let w = is_and c.args.connective in
     let set = set_of c.loop-interval.set in
     let i = interval_of c.in-Some.interval in
     let rest = map interval_of (into_iter_items c.next.new.self) in
@@ -48,7 +49,7 @@ loop-interval-preserved c =
 
 pub returns : goal.returns
 returns c =
-    let w = c.args.is_and in
+    let w = is_and c.args.connective in
     let set = set_of c.loop-interval.set in
     let known = c.loop-interval.invariant in
     let none : into_iter_items c.loop-interval.interval-iterator ≡ [] = no_items _ (sym known.counted ∙ c.in-None.ensures.steps.0) in

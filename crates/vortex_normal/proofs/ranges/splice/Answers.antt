@@ -1,5 +1,6 @@
 use Rattle.std.proofs.Common.{◌+◌, ◌-◌, ◌∙◌, ◌≡◌, ◌≤◌, ap, drop, false, length, map, refl, subst, take, true}
 use Rattle.std.specs.List.Sorted.{IsPartitionPoint}
+use Rattle.vortex_expr.specs.Trees.Connectives.{is_and}
 use Rattle.vortex_normal.specs.Intervals.{cut_le, cut_of, interval_of}
 use Rattle.vortex_normal.specs.Separate.{hull_of_all, is_separate}
 use Rattle.vortex_normal.proofs.Places.{rest_separate, spliced_set}
@@ -16,7 +17,7 @@ returns c =
     let set = c.args.set.now.items in
     let first = c.ending_below-first.result in
     let touched = c.beginning_by-touched.result in
-    spliced_set c.args.is_and r set c.append.new.self.items first touched c.requires.values c.requires.separate
+    spliced_set (is_and c.args.connective) r set c.append.new.self.items first touched c.requires.values c.requires.separate
     (subst (λ l. first ≤ length l) c.deref.ensures.value c.ending_below-first.ensures.bound)
     (subst (λ l. touched ≤ length (take (length l - first) (drop first l))) c.deref-2.ensures.value c.beginning_by-touched.ensures.bound)
     (subst (λ l. IsPartitionPoint (λ i. cut_le r.low (cut_of i.high) ≡ false) (λ i. cut_le r.low (cut_of i.high) ≡ true) l first) c.deref.ensures.value c.ending_below-first.ensures.place)
