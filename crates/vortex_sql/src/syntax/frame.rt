@@ -3,6 +3,7 @@ use crate::syntax::chain::{Items, chained};
 use crate::syntax::error::ParseError;
 use crate::syntax::part::{Built, Form, MAX_LEVELS, put, take_condition};
 use std::alloc::Global;
+use vortex_expr::scalar_fn::Connective;
 
 /// The word or sign that opened a frame.
 #[derive(Clone, Copy, PartialEq, Eq)]
@@ -53,7 +54,7 @@ impl Frame {
     /// Adds a condition that ends at a place and that OR follows.
     pub fn or(&mut self, alloc: Global, place: usize, item: Built) -> Result<(), ParseError> {
         self.ands.push(Some(item))?;
-        let chain = chained(alloc, place, true, &mut self.ands)?;
+        let chain = chained(alloc, place, Connective::And, &mut self.ands)?;
         self.ors.push(Some(chain))?;
         Ok(())
     }
@@ -70,7 +71,7 @@ impl Frame {
             return Ok(());
         }
         self.or(alloc, end, take_condition(alloc, last, start, end)?)?;
-        put(last, chained(alloc, end, false, &mut self.ors)?);
+        put(last, chained(alloc, end, Connective::Or, &mut self.ors)?);
         Ok(())
     }
 }

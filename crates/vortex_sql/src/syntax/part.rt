@@ -2,6 +2,7 @@
 use crate::syntax::error::ParseError;
 use crate::syntax::tree::{Condition, Leaf, Operand, Test};
 use std::alloc::Global;
+use vortex_expr::scalar_fn::Connective;
 
 /// How many levels a condition has at most, and how many parentheses and NOTs may be open.
 pub const MAX_LEVELS: usize = 64;
@@ -64,11 +65,10 @@ fn unary_of(unary: Unary, inner: Box<Condition>) -> Condition {
     }
 }
 
-fn pair_of(is_and: bool, left: Box<Condition>, right: Box<Condition>) -> Condition {
-    if is_and {
-        Condition::And(left, right)
-    } else {
-        Condition::Or(left, right)
+fn pair_of(connective: Connective, left: Box<Condition>, right: Box<Condition>) -> Condition {
+    match connective {
+        Connective::And => Condition::And(left, right),
+        Connective::Or => Condition::Or(left, right),
     }
 }
 
@@ -76,7 +76,7 @@ fn pair_of(is_and: bool, left: Box<Condition>, right: Box<Condition>) -> Conditi
 pub(crate) fn joined(
     alloc: Global,
     place: usize,
-    is_and: bool,
+    connective: Connective,
     left: Built,
     right: Built,
 ) -> Result<Built, ParseError> {
@@ -92,7 +92,7 @@ pub(crate) fn joined(
         alloc,
         place,
         height.max(other),
-        pair_of(is_and, first, second),
+        pair_of(connective, first, second),
     )
 }
 

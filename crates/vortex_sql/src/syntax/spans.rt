@@ -44,9 +44,9 @@ fn has_and(bytes: &[u8]) -> bool
 // Returns where the last leaf ends, if from a place on there is an AND before each leaf exactly
 // where AND joins it to what is before it.
 #[tactic(auto, using(crate::proofs::Parsing::Joined::ends))]
-fn end_of_joined(text: &[u8], condition: &Condition, from: usize, is_and: bool) -> Option<usize>
+fn end_of_joined(text: &[u8], condition: &Condition, from: usize, and_before: bool) -> Option<usize>
     ensures joins { IfSome result (λ end.
-        Joins text.now from (leaves condition.now) (is_and ∷ ands condition.now)) }
+        Joins text.now from (leaves condition.now) (and_before ∷ ands condition.now)) }
     ensures end { IfSome result (λ end. end ≡ end_behind from (leaves condition.now)) }
 {
     match condition {
@@ -54,19 +54,19 @@ fn end_of_joined(text: &[u8], condition: &Condition, from: usize, is_and: bool) 
             if from > leaf.start || leaf.start > text.len() {
                 return None;
             }
-            if has_and(&text[from..leaf.start]) != is_and {
+            if has_and(&text[from..leaf.start]) != and_before {
                 return None;
             }
             Some(leaf.end)
         }
         Condition::Not(x) | Condition::IsNull(x) | Condition::IsTrue(x) | Condition::IsFalse(x) =>
-            end_of_joined(text, x, from, is_and),
+            end_of_joined(text, x, from, and_before),
         Condition::And(left, right) => {
-            let middle = end_of_joined(text, left, from, is_and)?;
+            let middle = end_of_joined(text, left, from, and_before)?;
             end_of_joined(text, right, middle, true)
         }
         Condition::Or(left, right) => {
-            let middle = end_of_joined(text, left, from, is_and)?;
+            let middle = end_of_joined(text, left, from, and_before)?;
             end_of_joined(text, right, middle, false)
         }
     }
