@@ -4,7 +4,8 @@ use Rattle.vortex_expr.specs.Trees.Tree.{Tree, Place, column, literal, binary, b
 use Rattle.vortex_expr.specs.declared.scalar_fn.BetweenOptions.{BetweenOptions}
 use Rattle.vortex_expr.specs.declared.scalar_fn.Operator.{Operator}
 use Rattle.vortex_rewrite.specs.Rewriting.ReadOnce.{are_apart, are_distinct, are_sides_apart, columns_of, has_index, has_disjoint_ands, is_binary_apart, is_operand, is_range, is_simple, is_simple_binary}
-use Rattle.vortex_capi.specs.Nesting.Halves.{connective, halved}
+use Rattle.vortex_expr.specs.Trees.Connectives.{operator_of}
+use Rattle.vortex_capi.specs.Nesting.Halves.{halved}
 use Rattle.vortex_capi.proofs.Nesting.Values.{kept}
 
 -- ---- the leaves that a node sees
@@ -48,7 +49,7 @@ Simple = Option (Tree Place) × Bool
 abbrev simple : Tree Place → Simple
 simple e = (leaf e, is_simple e)
 
-simple_joins : (w : Bool) (a b : Tree Place) → simple (binary (connective w) a b) ≡ (None, is_simple a && is_simple b)
+simple_joins : (w : Bool) (a b : Tree Place) → simple (binary (operator_of w) a b) ≡ (None, is_simple a && is_simple b)
 simple_joins true a b = refl
 simple_joins false a b = refl
 
@@ -154,7 +155,7 @@ sides_right : (w : Bool) (a : Sides) → both_sides w a ([], true) ≡ a
 sides_right true a = ap₂ paired (append-nil a.0) (ap₂ ◌&&◌ (apart_none a.0) (and_true a.1))
 sides_right false a = ap₂ paired (append-nil a.0) (and_true a.1)
 
-sides_join : (w : Bool) (a b : Tree Place) → sides (binary (connective w) a b) ≡ both_sides w (sides a) (sides b)
+sides_join : (w : Bool) (a b : Tree Place) → sides (binary (operator_of w) a b) ≡ both_sides w (sides a) (sides b)
 sides_join true a b = refl
 sides_join false a b = refl
 

@@ -5,7 +5,8 @@ use Rattle.std.specs.List.{AllByRecursion}
 use Rattle.vortex_expr.specs.Trees.Tree.{Tree, Place, binary}
 use Rattle.vortex_rewrite.specs.Rewriting.Falsifiers.{bool_literal}
 use Rattle.vortex_normal.specs.Balanced.{depth}
-use Rattle.vortex_capi.specs.Nesting.Halves.{connective, first_or, in_turns, joined, paired}
+use Rattle.vortex_expr.specs.Trees.Connectives.{operator_of}
+use Rattle.vortex_capi.specs.Nesting.Halves.{first_or, in_turns, joined, paired}
 use Rattle.vortex_capi.specs.Nesting.Laws.{ChainsAreShallow, IsShallow}
 use Rattle.vortex_capi.specs.Nesting.Nodes.{deepest}
 use Rattle.vortex_capi.proofs.Nesting.Pairs.{half, one_left}
@@ -42,10 +43,10 @@ lone_stays w (suc n) e = lone_stays w n e
 
 turns_deeper : (w : Bool) (n : ℕ) (a b d : Tree Place) (es : List (Tree Place)) → length es + 2 ≤ suc n → deepest (a ∷ b ∷ es) < depth (first_or d (in_turns n w (a ∷ b ∷ es)))
 turns_deeper w zero a b d es h = absurd (omega (arith, h))
-turns_deeper w (suc n) a b d [] h = rw (lone_stays w n (binary (connective w) a b)) (omega arith)
-turns_deeper w (suc n) a b d (c ∷ []) h = omega (arith, turns_deeper w n (binary (connective w) a b) c d [] (omega (arith, h)))
+turns_deeper w (suc n) a b d [] h = rw (lone_stays w n (binary (operator_of w) a b)) (omega arith)
+turns_deeper w (suc n) a b d (c ∷ []) h = omega (arith, turns_deeper w n (binary (operator_of w) a b) c d [] (omega (arith, h)))
 turns_deeper w (suc n) a b d (c ∷ e ∷ es) h =
-    omega (arith, turns_deeper w n (binary (connective w) a b) (binary (connective w) c e) d (paired w es) (omega (arith, h, half w es)), deepest_paired w es)
+    omega (arith, turns_deeper w n (binary (operator_of w) a b) (binary (operator_of w) c e) d (paired w es) (omega (arith, h, half w es)), deepest_paired w es)
 
 pub items_deeper : (w : Bool) (es : List (Tree Place)) → 2 ≤ length es → deepest es < depth (joined w es)
 items_deeper w [] h = absurd (omega (arith, h))

@@ -14,7 +14,8 @@ use Rattle.vortex_syntax.specs.Fails.{when}
 use Rattle.vortex_syntax.specs.Words.{Token, plain_word}
 use Rattle.vortex_syntax.specs.declared.form.Form.{Form}
 use Rattle.vortex_syntax.specs.declared.form.Form.TheVariants as form
-use Rattle.vortex_capi.specs.Nesting.Halves.{connective, halved, halves, items, joined}
+use Rattle.vortex_expr.specs.Trees.Connectives.{operator_of}
+use Rattle.vortex_capi.specs.Nesting.Halves.{halved, halves, items, joined}
 use Rattle.vortex_capi.specs.Nesting.Nodes.{IsDeep, deepest}
 use Rattle.vortex_capi.specs.Nesting.Reads.{Fails, behind, chain_within, halved_pair, halved_read, joined_read, nested_within, opens}
 use Rattle.vortex_capi.specs.declared.nested.error.NestedError.{NestedError}
@@ -126,7 +127,7 @@ when_some : {X : Type 0} (b : Bool) (x y : X) → when b x ≡ Some y → (b ≡
 when_some true x y h = (refl, cc)
 when_some false x y h = cc
 
-opens_is : (w : Bool) (f : Form) → opens w f ≡ true → f ≡ form.Binary (connective w)
+opens_is : (w : Bool) (f : Form) → opens w f ≡ true → f ≡ form.Binary (operator_of w)
 opens_is true (form.Binary And) h = refl
 opens_is true f h = cc
 opens_is false (form.Binary Or) h = refl
@@ -155,7 +156,7 @@ module _ (scope : List Named) (w : Bool) where
       ap (option_and_then (after scope w ms))
       (step_is scope m ws a.at.1 a.at.0 b.at a.made b.made
       ∙ ap (λ f. expression_by scope (expression_within scope m) f a.at.1) (opens_is w b.at c.0)
-      ∙ ap (read_two (expression_within scope m) (binary (connective w))) c.1)
+      ∙ ap (read_two (expression_within scope m) (binary (operator_of w))) c.1)
       ∙ opened scope w ms m rest
 
 -- ---- what is read, and what is to come

@@ -5,7 +5,8 @@ use Rattle.vortex_base.specs.declared.scalar_value.ScalarValue.{ScalarValue}
 use Rattle.vortex_base.specs.declared.scalar_value.ScalarValue.TheVariants as value
 use Rattle.vortex_expr.specs.Meanings.Meaning.{applied, both, either, liked, meaning, opposite, truth, truth_value, within}
 use Rattle.vortex_expr.specs.Trees.Tree.{Tree, Place, binary}
-use Rattle.vortex_capi.specs.Nesting.Halves.{connective, halved}
+use Rattle.vortex_expr.specs.Trees.Connectives.{operator_of}
+use Rattle.vortex_capi.specs.Nesting.Halves.{halved}
 use Rattle.vortex_capi.proofs.Nesting.Values.{kept}
 
 -- what a chain makes of two truths
@@ -52,7 +53,7 @@ seen (Some b) = refl
 seen None = refl
 
 module _ (row : List Constant) (n : ℕ) where
-  joins : (w : Bool) (a b : Tree Place) → meaning (binary (connective w) a b) row n ≡ truth_value (op w (truth (meaning a row n)) (truth (meaning b row n)))
+  joins : (w : Bool) (a b : Tree Place) → meaning (binary (operator_of w) a b) row n ≡ truth_value (op w (truth (meaning a row n)) (truth (meaning b row n)))
   joins true a b = refl
   joins false a b = refl
 

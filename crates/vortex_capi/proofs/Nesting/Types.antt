@@ -9,7 +9,8 @@ use Rattle.vortex_base.specs.declared.error.BaseError.{BaseError}
 use Rattle.vortex_expr.specs.Meanings.Typing.{between_type, binary_type, connective_type, is_bool, like_type, not_type, null_test_type, stat_type, truth_type, type_of, with_type, with_types}
 use Rattle.vortex_expr.specs.Trees.Tree.{Tree, Place, binary}
 use Rattle.vortex_rewrite.specs.Rewriting.Predicates.{has_type, is_predicate}
-use Rattle.vortex_capi.specs.Nesting.Halves.{connective, halved}
+use Rattle.vortex_expr.specs.Trees.Connectives.{operator_of}
+use Rattle.vortex_capi.specs.Nesting.Halves.{halved}
 use Rattle.vortex_capi.specs.Nesting.Laws.{typing}
 use Rattle.vortex_capi.proofs.Nesting.Values.{kept}
 
@@ -108,7 +109,7 @@ chain_typed (Ok (dtype.Bool n)) (Err e) = refl
 chain_typed (Ok s) (Err e) = refl
 chain_typed (Err e) t = refl
 
-joins : (w : Bool) (a b : Tree Place) → typing (type_of (binary (connective w) a b)) ≡ chain_type (either_null (nulls (typing (type_of a))) (nulls (typing (type_of b))))
+joins : (w : Bool) (a b : Tree Place) → typing (type_of (binary (operator_of w) a b)) ≡ chain_type (either_null (nulls (typing (type_of a))) (nulls (typing (type_of b))))
 joins true a b = chain_typed (type_of a) (type_of b)
 joins false a b = chain_typed (type_of a) (type_of b)
 

@@ -7,7 +7,8 @@ use Rattle.vortex_expr.specs.declared.scalar_fn.BetweenOptions.{BetweenOptions}
 use Rattle.vortex_expr.specs.declared.like.LikeOptions.{LikeOptions}
 use Rattle.vortex_base.specs.declared.aggregate.AggregateFnRef.{AggregateFnRef}
 use Rattle.vortex_rewrite.specs.Rewriting.Falsifiers.{bool_literal}
-use Rattle.vortex_capi.specs.Nesting.Halves.{Halves, alone, chain_of, connective, first_or, halved, halves, in_turns, joined, paired}
+use Rattle.vortex_expr.specs.Trees.Connectives.{operator_of}
+use Rattle.vortex_capi.specs.Nesting.Halves.{Halves, alone, chain_of, first_or, halved, halves, in_turns, joined, paired}
 use Rattle.vortex_capi.proofs.Nesting.Pairs.{no_more}
 
 -- A chain's value comes by back from what op makes of what view sees of the values of its operands.
@@ -16,13 +17,13 @@ module _ {A B : Type 0} (value : Tree Place → B) (view : B → A) (back : A �
     (unit_left : (w : Bool) (a : A) → op w (none w) a ≡ a)
     (unit_right : (w : Bool) (a : A) → op w a (none w) ≡ a)
     (seen : (a : A) → view (back a) ≡ a)
-    (joins : (w : Bool) (a b : Tree Place) → value (binary (connective w) a b) ≡ back (op w (view (value a)) (view (value b)))) where
+    (joins : (w : Bool) (a b : Tree Place) → value (binary (operator_of w) a b) ≡ back (op w (view (value a)) (view (value b)))) where
   -- what op makes of some expressions, from the last on
   abbrev pub over : Bool → List (Tree Place) → A
   over w [] = none w
   over w (e ∷ es) = op w (view (value e)) (over w es)
 
-  pair_seen : (w : Bool) (a b : Tree Place) → view (value (binary (connective w) a b)) ≡ op w (view (value a)) (view (value b))
+  pair_seen : (w : Bool) (a b : Tree Place) → view (value (binary (operator_of w) a b)) ≡ op w (view (value a)) (view (value b))
   pair_seen w a b = ap view (joins w a b) ∙ seen (op w (view (value a)) (view (value b)))
 
   over_append : (w : Bool) (es ds : List (Tree Place)) → over w (es ++ ds) ≡ op w (over w es) (over w ds)
@@ -38,13 +39,13 @@ module _ {A B : Type 0} (value : Tree Place → B) (view : B → A) (back : A �
 
   -- what is left when a pair comes first
   turned : (w : Bool) (n : ℕ) (a b : Tree Place) (es : List (Tree Place)) → length es ≤ n
-      → value (first_or (bool_literal w) (in_turns n w (binary (connective w) a b ∷ es))) ≡ back (over w (binary (connective w) a b ∷ es))
+      → value (first_or (bool_literal w) (in_turns n w (binary (operator_of w) a b ∷ es))) ≡ back (over w (binary (operator_of w) a b ∷ es))
   turned w zero a b [] h =
-      joins w a b ∙ ap back (sym (pair_seen w a b) ∙ sym (unit_right w (view (value (binary (connective w) a b)))))
+      joins w a b ∙ ap back (sym (pair_seen w a b) ∙ sym (unit_right w (view (value (binary (operator_of w) a b)))))
   turned w zero a b (e ∷ es) h = absurd (omega (arith, h))
   turned w (suc n) a b [] h = turned w n a b [] (omega arith)
   turned w (suc n) a b (e ∷ es) h =
-      let p = binary (connective w) a b in
+      let p = binary (operator_of w) a b in
       turned w n p e (paired w es) (omega (arith, h, no_more w es)) ∙ ap back (over_paired w (p ∷ e ∷ es))
 
   joined_value : (w : Bool) (a b : Tree Place) (es : List (Tree Place)) → value (joined w (a ∷ b ∷ es)) ≡ back (over w (a ∷ b ∷ es))
@@ -81,10 +82,10 @@ module _ {A B : Type 0} (value : Tree Place → B) (view : B → A) (back : A �
     all_over : over w (es ++ ds) ≡ op w (view (value l)) (view (value r))
     all_over = over_append w es ds ∙ ap₂ (op w) over_l over_r
 
-    whole_value : value (joined w (es ++ ds)) ≡ value (binary (connective w) l r)
+    whole_value : value (joined w (es ++ ds)) ≡ value (binary (operator_of w) l r)
     whole_value = both_values w es ds some_l some_r ∙ ap back all_over ∙ sym (joins w l r)
 
-    items_value : over w (es ++ ds) ≡ view (value (binary (connective w) l r))
+    items_value : over w (es ++ ds) ≡ view (value (binary (operator_of w) l r))
     items_value = all_over ∙ sym (pair_seen w l r)
 
     some : 0 < length (es ++ ds)

@@ -1,5 +1,6 @@
 -- Expressions whose chains of AND and of OR are joined in halves.
 use Rattle.std.specs.Prelude.{ℕ, zero, suc, Bool, true, false, List, [], ◌∷◌, ◌++◌, length}
+use Rattle.vortex_expr.specs.Trees.Connectives.{operator_of}
 use Rattle.vortex_expr.specs.Trees.Tree.{Tree, Place, column, literal, binary, between, is_null, is_not_null, not, like, stat, row_count}
 use Rattle.vortex_expr.specs.declared.scalar_fn.Operator.{Operator}
 use Rattle.vortex_expr.specs.declared.scalar_fn.Operator.TheVariants.{And, Or}
@@ -7,15 +8,11 @@ use Rattle.vortex_rewrite.specs.Rewriting.Falsifiers.{bool_literal}
 
 -- ---- joining
 
-abbrev pub connective : (is_and : Bool) → Operator
-connective true = And
-connective false = Or
-
 -- neighbours joined, in their order; the last of an odd number stays as it is
 abbrev pub paired : (is_and : Bool) → List (Tree Place) → List (Tree Place)
 paired w [] = []
 paired w (a ∷ []) = a ∷ []
-paired w (a ∷ b ∷ es) = binary (connective w) a b ∷ paired w es
+paired w (a ∷ b ∷ es) = binary (operator_of w) a b ∷ paired w es
 
 -- so for some turns
 abbrev pub in_turns : (turns : ℕ) → (is_and : Bool) → List (Tree Place) → List (Tree Place)

@@ -1,6 +1,8 @@
 -- What a reader of expressions whose chains are joined in halves answers.
 use Rattle.std.specs.Prelude.{◌≡◌, ◌<◌, ◌≤◌, ℕ, Bool, true, false, List, [], ◌∷◌, ◌++◌, Option, Some, None, Result, Ok, Err, ⊤}
 use Rattle.vortex_base.specs.Data.Scopes.{Named}
+use Rattle.vortex_expr.specs.Trees.Connectives.{is_and}
+use Rattle.vortex_expr.specs.declared.scalar_fn.Connective.TheVariants as connective
 use Rattle.vortex_expr.specs.Trees.Tree.{Tree, Place}
 use Rattle.vortex_expr.specs.declared.scalar_fn.Operator.{Operator}
 use Rattle.vortex_expr.specs.declared.scalar_fn.Operator.TheVariants as operator
@@ -51,8 +53,8 @@ joined_read w (Some y) = Some (joined w y.0, y.1)
 -- ---- by the first word
 
 abbrev pub shape_of_operator : Operator → Shape
-shape_of_operator operator.And = shape.Chain true
-shape_of_operator operator.Or = shape.Chain false
+shape_of_operator operator.And = shape.Chain connective.And
+shape_of_operator operator.Or = shape.Chain connective.Or
 shape_of_operator o = shape.Pair (pair.Binary o)
 
 abbrev pub shape_of : Form → Shape
@@ -69,7 +71,7 @@ shape_of (form.Like o) = shape.Pair (pair.Like o)
 abbrev pub shape_within : List Named → ℕ → Shape → List Token → Read
 shape_within scope most shape.Column ws = read_column scope ws
 shape_within scope most shape.Literal ws = read_literal ws
-shape_within scope most (shape.Chain w) ws = joined_read w (chain_within scope w (most ∷ most ∷ []) ws)
+shape_within scope most (shape.Chain k) ws = joined_read (is_and k) (chain_within scope (is_and k) (most ∷ most ∷ []) ws)
 shape_within scope most (shape.Pair p) ws = read_two (nested_within scope most) (pair_of p) ws
 shape_within scope most shape.Between ws = read_between (nested_within scope most) ws
 shape_within scope most (shape.Unary u) ws = read_one (nested_within scope most) (unary_of u) ws

@@ -1,5 +1,6 @@
 //! Chains joined two by two.
 ghost use Rattle.std.specs.Prelude.{◌≡◌, ◌≤◌, ◌<◌, length};
+ghost use Rattle.vortex_expr.specs.Trees.Connectives.{is_and};
 ghost use Rattle.vortex_normal.specs.Balanced.{depth};
 ghost use Rattle.vortex_capi.specs.Nesting.Halves as spec;
 ghost use Rattle.vortex_capi.specs.Nesting.Nodes.{Joins, deepest};
@@ -8,22 +9,23 @@ use crate::nested::error::NestedError;
 use crate::nested::item::Item;
 use crate::nested::nested::Nested;
 use std::alloc::Global;
+use vortex_expr::scalar_fn::Connective;
 
 // Joins neighbours by AND or by OR; the last of an odd number stays as it is.
 fn paired(
     alloc: Global,
-    is_and: bool,
+    connective: Connective,
     below: usize,
     items: Vec<Item>,
 ) -> Result<Vec<Item>, NestedError>
-    ensures { Joins (λ pairs. pairs.items ≡ spec.paired is_and items.items)
-        (below ≤ deepest (spec.paired is_and items.items)) result }
+    ensures { Joins (λ pairs. pairs.items ≡ spec.paired (is_and connective) items.items)
+        (below ≤ deepest (spec.paired (is_and connective) items.items)) result }
 {
     let mut pairs = Vec::new(alloc);
     let mut rest = items.into_iter();
     'pairs: while let Some(first) = rest.next() {
         match rest.next() {
-            Some(second) => match Item::joined(alloc, is_and, below, first, second) {
+            Some(second) => match Item::joined(alloc, connective, below, first, second) {
                 Ok(pair) => pairs.push(pair)?,
                 Err(e) => return Err(e),
             },
@@ -38,17 +40,17 @@ fn paired(
 #[inline(never)]
 pub(crate) fn joined(
     alloc: Global,
-    is_and: bool,
+    connective: Connective,
     below: usize,
     items: Vec<Item>,
 ) -> Result<Nested, NestedError>
     requires { 0 < length items.items }
-    ensures { Joins (λ e. (e ≡ spec.joined is_and items.items) × (depth e < below))
-        (below ≤ depth (spec.joined is_and items.items)) result }
+    ensures { Joins (λ e. (e ≡ spec.joined (is_and connective) items.items) × (depth e < below))
+        (below ≤ depth (spec.joined (is_and connective) items.items)) result }
 {
     let mut left = items;
     'turns: while left.len() > 1 {
-        left = match paired(alloc, is_and, below, left) {
+        left = match paired(alloc, connective, below, left) {
             Ok(pairs) => pairs,
             Err(e) => return Err(e),
         };

@@ -1,6 +1,7 @@
 //! Expressions in prefix form, their chains joined in halves.
 ghost use Rattle.std.specs.Prelude.{◌≡◌, ◌<◌, ◌≤◌, ◌+◌, ◌∷◌, [], ℕ, IfOk, IfSome, List, length, option_map};
 ghost use Rattle.vortex_base.specs.Data.Scopes.{named_columns};
+ghost use Rattle.vortex_expr.specs.Trees.Connectives.{is_and};
 ghost use Rattle.vortex_syntax.specs.Expressions as syntax;
 ghost use Rattle.vortex_syntax.specs.Words.{Token, words};
 ghost use Rattle.vortex_capi.specs.Nesting.Nodes.{pair_of, unary_of};
@@ -13,6 +14,7 @@ use crate::nested::joining::joined;
 use crate::nested::nested::{Nested, Pair, Unary};
 use crate::nested::shape::{Shape, shape_of};
 use std::alloc::Global;
+use vortex_expr::scalar_fn::Connective;
 use vortex_syntax::columns::Columns;
 use vortex_syntax::expected::Expected;
 use vortex_syntax::expression;
@@ -50,14 +52,14 @@ fn read_literal(alloc: Global, line: &[u8]) -> Result<(Nested, &[u8]), NestedErr
 }
 
 // Returns the line behind the AND or the OR that it begins with.
-fn behind(is_and: bool, line: &[u8]) -> Option<&[u8]>
+fn behind(connective: Connective, line: &[u8]) -> Option<&[u8]>
     ensures behind { option_map {U = List Token} (λ rest. words rest.now) result
-        ≡ spec.behind is_and (words line.now) }
+        ≡ spec.behind (is_and connective) (words line.now) }
     ensures fewer { IfSome result (λ rest. length (words rest.now) < length (words line.now)) }
 {
     let (word, rest) = plain_word(line, Expected::Expression).ok()?;
     match shape_of(form_of(word)?) {
-        Shape::Chain(found) if found == is_and => Some(rest),
+        Shape::Chain(found) if found == connective => Some(rest),
         _ => None,
     }
 }
@@ -168,21 +170,22 @@ fn read_between<'a>(
 fn read_items<'a>(
     alloc: Global,
     columns: &Columns,
-    is_and: bool,
+    connective: Connective,
     under: usize,
     line: &'a [u8],
 ) -> Result<(Vec<Item>, &'a [u8]), NestedError>
     requires { under < usize.MAX }
     ensures read { (most : ℕ) → length (words line.now) ≤ most
-        → ReadsItems (under + 1) is_and (λ x. (x.0.items, words x.1.now)) result
-        (spec.chain_within (named_columns columns.now) is_and (most ∷ most ∷ []) (words line.now)) }
+        → ReadsItems (under + 1) (is_and connective) (λ x. (x.0.items, words x.1.now)) result
+        (spec.chain_within (named_columns columns.now) (is_and connective) (most ∷ most ∷ [])
+        (words line.now)) }
     ensures fewer { IfOk result (λ x. length (words x.1.now) < length (words line.now)) }
 {
     let mut items = Vec::new(alloc);
     let mut rest = line;
     let mut count = 2usize;
     'items: while count > 0 {
-        match behind(is_and, rest) {
+        match behind(connective, rest) {
             Some(after) => {
                 // More items than memory can hold.
                 let Some(more) = count.checked_add(1) else {
@@ -216,22 +219,22 @@ fn read_items<'a>(
 fn read_chain<'a>(
     alloc: Global,
     columns: &Columns,
-    is_and: bool,
+    connective: Connective,
     under: usize,
     line: &'a [u8],
 ) -> Result<(Nested, &'a [u8]), NestedError>
     requires { under < usize.MAX }
     ensures read { (most : ℕ) → length (words line.now) ≤ most
         → Reads (under + 1) (λ x. (x.0, words x.1.now)) result
-        (spec.joined_read is_and (spec.chain_within (named_columns columns.now) is_and
-        (most ∷ most ∷ []) (words line.now))) }
+        (spec.joined_read (is_and connective) (spec.chain_within (named_columns columns.now)
+        (is_and connective) (most ∷ most ∷ []) (words line.now))) }
     ensures fewer { IfOk result (λ x. length (words x.1.now) < length (words line.now)) }
 {
-    let (items, rest) = match read_items(alloc, columns, is_and, under, line) {
+    let (items, rest) = match read_items(alloc, columns, connective, under, line) {
         Ok(found) => found,
         Err(e) => return Err(e),
     };
-    match joined(alloc, is_and, under + 1, items) {
+    match joined(alloc, connective, under + 1, items) {
         Ok(whole) => Ok((whole, rest)),
         Err(e) => Err(e),
     }
@@ -266,7 +269,7 @@ pub(crate) fn read_nested<'a>(
         Shape::Column => read_column(alloc, columns, rest),
         Shape::Literal => read_literal(alloc, rest),
         Shape::Unary(test) => read_unary(alloc, columns, test, under, rest),
-        Shape::Chain(is_and) => read_chain(alloc, columns, is_and, under, rest),
+        Shape::Chain(connective) => read_chain(alloc, columns, connective, under, rest),
         Shape::Pair(pair) => read_pair(alloc, columns, pair, under, rest),
         Shape::Between => read_between(alloc, columns, under, rest),
     }

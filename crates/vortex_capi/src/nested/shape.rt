@@ -3,7 +3,7 @@ ghost use Rattle.std.specs.Prelude.{◌≡◌};
 ghost use Rattle.vortex_capi.specs.Nesting.Reads.{shape_of, shape_of_operator};
 
 use crate::nested::nested::{Pair, Unary};
-use vortex_expr::scalar_fn::Operator;
+use vortex_expr::scalar_fn::{Connective, Operator};
 use vortex_syntax::form::Form;
 
 /// Tells what stands behind the first word of an expression.
@@ -11,8 +11,8 @@ use vortex_syntax::form::Form;
 pub(crate) enum Shape {
     Column,
     Literal,
-    /// The items of a chain of AND, or else of OR.
-    Chain(bool),
+    /// The items of a chain.
+    Chain(Connective),
     Pair(Pair),
     Between,
     Unary(Unary),
@@ -22,8 +22,8 @@ fn shape_of_operator(operator: Operator) -> Shape
     ensures { result ≡ shape_of_operator operator }
 {
     match operator {
-        Operator::And => Shape::Chain(true),
-        Operator::Or => Shape::Chain(false),
+        Operator::And => Shape::Chain(Connective::And),
+        Operator::Or => Shape::Chain(Connective::Or),
         _ => Shape::Pair(Pair::Binary(operator)),
     }
 }

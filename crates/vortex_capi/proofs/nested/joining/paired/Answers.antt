@@ -1,12 +1,13 @@
 use Rattle.std.proofs.Common.{◌≡◌, ◌∷◌, ◌++◌, sym, ap, ◌∙◌}
 use Rattle.std.specs.Vec.Iter.{into_iter_items}
+use Rattle.vortex_expr.specs.Trees.Connectives.{is_and}
 use Rattle.vortex_capi.specs.Nesting.Halves as spec
 use Rattle.vortex_capi.proofs.Nesting.Failures.{still_deep, pair_deep}
 use Rattle.vortex_capi.proofs.nested.joining.paired.Goals as goal
 
 pub returns-in-Err : goal.returns-in-Err
 returns-in-Err c =
-    let w = c.args.is_and in
+    let w = is_and c.args.connective in
     let a = c.in-Some.first in
     let b = c.in-Some-next.second in
     let more = into_iter_items c.next-in-Some.new.self in

@@ -1,4 +1,5 @@
 use Rattle.std.proofs.Common.{◌≡◌, ◌+◌, ◌-◌, ◌∷◌, ◌++◌, [], ℕ, true, false, List, sym, ap, ◌∙◌, subst, arith, length}
+use Rattle.vortex_expr.specs.Trees.Connectives.{is_and}
 use Rattle.vortex_expr.specs.Trees.Tree.{Tree, Place}
 use Rattle.vortex_rewrite.specs.Rewriting.Predicates.{is_predicate}
 use Rattle.vortex_base.specs.Data.Scopes.{named_columns}
@@ -24,7 +25,7 @@ read_nested-returns-in-Literal-clause-read t c =
 
 pub read_nested-returns-in-Chain-clause-read : goal.read_nested-returns-in-Chain-clause-read
 read_nested-returns-in-Chain-clause-read t c =
-    by_shape (named_columns c.args.columns.now) (words c.args.line.now) (words c.in-Ok.found.1.now) c.in-Ok.found.0.now c.in-Some.form (shape.Chain c.in-Chain.is_and) (c.args.below - 1) c.args.below (λ x. (x.0, words x.1.now)) c.read_chain.result
+    by_shape (named_columns c.args.columns.now) (words c.args.line.now) (words c.in-Ok.found.1.now) c.in-Ok.found.0.now c.in-Some.form (shape.Chain c.in-Chain.connective) (c.args.below - 1) c.args.below (λ x. (x.0, words x.1.now)) c.read_chain.result
     c.in-Ok.ensures.word (sym c.form_of.ensures ∙ c.in-Some.is) (sym c.in-Chain.is ∙ c.shape_of.ensures) c.in-Ok.ensures.fewer (omega arith) c.read_chain.ensures.read
 
 pub read_nested-returns-in-Pair-clause-read : goal.read_nested-returns-in-Pair-clause-read
@@ -126,7 +127,7 @@ read_between-between-requires-clause-upper_fits t c =
 pub read_chain-joined-requires : goal.read_chain-joined-requires
 read_chain-joined-requires t c =
     let most = length (words c.args.line.now) in
-    let long = chain_long (named_columns c.args.columns.now) c.args.is_and (most ∷ most ∷ []) (words c.args.line.now) (c.in-Ok.found.0.items, words c.in-Ok.found.1.now) (c.in-Ok.ensures.read most (omega arith)) in
+    let long = chain_long (named_columns c.args.columns.now) (is_and c.args.connective) (most ∷ most ∷ []) (words c.args.line.now) (c.in-Ok.found.0.items, words c.in-Ok.found.1.now) (c.in-Ok.ensures.read most (omega arith)) in
     omega (arith, long)
 
 pub read_items-items-init : goal.read_items-items-init
@@ -135,8 +136,8 @@ read_items-items-init t c =
     let ws = words c.args.line.now in
     record {
       left = λ most fits.
-          let P : List (Tree Place) → Type 0 = λ es. Left scope c.args.is_and (chain_within scope c.args.is_and (most ∷ most ∷ []) ws) es 2 ws in
-          subst P (sym c.new-items.ensures.items) (left_start scope c.args.is_and most ws fits);
+          let P : List (Tree Place) → Type 0 = λ es. Left scope (is_and c.args.connective) (chain_within scope (is_and c.args.connective) (most ∷ most ∷ []) ws) es 2 ws in
+          subst P (sym c.new-items.ensures.items) (left_start scope (is_and c.args.connective) most ws fits);
       within = omega arith;
       fewer = omega arith;
     }
@@ -144,7 +145,7 @@ read_items-items-init t c =
 pub read_items-items-preserved-in-Some : goal.read_items-items-preserved-in-Some
 read_items-items-preserved-in-Some t c =
     let scope = named_columns c.args.columns.now in
-    let w = c.args.is_and in
+    let w = is_and c.args.connective in
     let ws = words c.args.line.now in
     let rest = words c.items.rest.now in
     let after = words c.in-Some.after.now in
@@ -163,7 +164,7 @@ read_items-items-preserved-in-Some t c =
 pub read_items-items-preserved : goal.read_items-items-preserved
 read_items-items-preserved t c =
     let scope = named_columns c.args.columns.now in
-    let w = c.args.is_and in
+    let w = is_and c.args.connective in
     let ws = words c.args.line.now in
     let rest = words c.items.rest.now in
     let after = words c.in-Ok.found.1.now in
@@ -185,7 +186,7 @@ read_items-items-preserved t c =
 pub read_items-returns-in-Err-clause-read : goal.read_items-returns-in-Err-clause-read
 read_items-returns-in-Err-clause-read t c = λ most fits.
     let scope = named_columns c.args.columns.now in
-    let w = c.args.is_and in
+    let w = is_and c.args.connective in
     let ws = words c.args.line.now in
     let whole = chain_within scope w (most ∷ most ∷ []) ws in
     left_fails scope w whole c.items.items.items c.items.count (words c.items.rest.now) (c.items.invariant.left most fits) c.items-test.true (sym c.in-None.ensures.behind)
@@ -194,7 +195,7 @@ read_items-returns-in-Err-clause-read t c = λ most fits.
 pub read_items-returns-then-not-is_truth-clause-read : goal.read_items-returns-then-not-is_truth-clause-read
 read_items-returns-then-not-is_truth-clause-read t c = λ most fits.
     let scope = named_columns c.args.columns.now in
-    let w = c.args.is_and in
+    let w = is_and c.args.connective in
     let ws = words c.args.line.now in
     let whole = chain_within scope w (most ∷ most ∷ []) ws in
     let truth : is_predicate c.in-Ok.found.0 ≡ false = sym c.is_truth.ensures ∙ c.if-not-is_truth.true in
@@ -204,7 +205,7 @@ read_items-returns-then-not-is_truth-clause-read t c = λ most fits.
 pub read_items-returns-clause-read : goal.read_items-returns-clause-read
 read_items-returns-clause-read t c = λ most fits.
     let scope = named_columns c.args.columns.now in
-    let w = c.args.is_and in
+    let w = is_and c.args.connective in
     let ws = words c.args.line.now in
     let whole = chain_within scope w (most ∷ most ∷ []) ws in
     left_done scope w whole c.items.items.items c.items.count (words c.items.rest.now) (c.items.invariant.left most fits) (omega arith)

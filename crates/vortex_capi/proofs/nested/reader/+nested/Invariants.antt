@@ -1,4 +1,5 @@
 use Rattle.std.proofs.Common.{◌≤◌, ◌+◌, ◌*◌, ℕ, [], ◌∷◌, length}
+use Rattle.vortex_expr.specs.Trees.Connectives.{is_and}
 use Rattle.vortex_base.specs.Data.Scopes.{named_columns}
 use Rattle.vortex_syntax.specs.Words.{words}
 use Rattle.vortex_capi.specs.Nesting.Reads.{chain_within}
@@ -26,7 +27,7 @@ decreases-read_chain l = 3 * length (words l.line.now) + 2
 -- the items so far, and how many are to come
 abbrev pub invariant-read_items-items : goal.invariant-read_items-items
 invariant-read_items-items l = record {
-  left : (most : ℕ) → length (words l.line) ≤ most → Left (named_columns l.columns) l.is_and (chain_within (named_columns l.columns) l.is_and (most ∷ most ∷ []) (words l.line)) l.items.items l.count (words l.rest);
+  left : (most : ℕ) → length (words l.line) ≤ most → Left (named_columns l.columns) (is_and l.connective) (chain_within (named_columns l.columns) (is_and l.connective) (most ∷ most ∷ []) (words l.line)) l.items.items l.count (words l.rest);
   within : length (words l.rest) ≤ length (words l.line);
   fewer : length (words l.rest) + 2 ≤ length (words l.line) + l.count;
 }
