@@ -77,19 +77,19 @@ slice-of-all-back xs ys =
 
 -- the byte strings of a heap
 
-pub blobs-length : (start : ℕ) (ends heap : List ℕ) (there : List Bool) → length ends ≡ length there → length (blobs_from start ends heap there) ≡ length ends
-blobs-length start [] heap there long = refl
+pub blobs-length : (start : ℕ) (ends heap : List ℕ) (validity : List Bool) → length ends ≡ length validity → length (blobs_from start ends heap validity) ≡ length ends
+blobs-length start [] heap validity long = refl
 blobs-length start (end ∷ ends) heap [] long = absurd (omega arith)
 blobs-length start (end ∷ ends) heap (t ∷ ts) long = ap suc (blobs-length end ends heap ts (omega arith))
 
-pub blobs-append : (start : ℕ) (ends more heap : List ℕ) (there others : List Bool) (middle : ℕ) → length ends ≡ length there → IsTrue (rise start ends middle) → blobs_from start (ends ++ more) heap (there ++ others) ≡ blobs_from start ends heap there ++ blobs_from middle more heap others
+pub blobs-append : (start : ℕ) (ends more heap : List ℕ) (validity others : List Bool) (middle : ℕ) → length ends ≡ length validity → IsTrue (rise start ends middle) → blobs_from start (ends ++ more) heap (validity ++ others) ≡ blobs_from start ends heap validity ++ blobs_from middle more heap others
 blobs-append start [] more heap [] others middle long h = ap (λ (k : ℕ). blobs_from k more heap others) (rise-none start middle h)
 blobs-append start [] more heap (t ∷ ts) others middle long h = absurd (omega arith)
 blobs-append start (end ∷ ends) more heap [] others middle long h = absurd (omega arith)
 blobs-append start (end ∷ ends) more heap (t ∷ ts) others middle long h = ap (λ bs. blob t (slice_range heap start end) ∷ bs) (blobs-append end ends more heap ts others middle (omega arith) (rise-rest start end ends middle h))
 
-pub blobs-front : (start : ℕ) (ends heap more : List ℕ) (there : List Bool) (stop : ℕ) → IsTrue (rise start ends stop) → stop ≤ length heap → blobs_from start ends (heap ++ more) there ≡ blobs_from start ends heap there
-blobs-front start [] heap more there stop h within = refl
+pub blobs-front : (start : ℕ) (ends heap more : List ℕ) (validity : List Bool) (stop : ℕ) → IsTrue (rise start ends stop) → stop ≤ length heap → blobs_from start ends (heap ++ more) validity ≡ blobs_from start ends heap validity
+blobs-front start [] heap more validity stop h within = refl
 blobs-front start (end ∷ ends) heap more [] stop h within = refl
 blobs-front start (end ∷ ends) heap more (t ∷ ts) stop h within =
     let first = rise-first start end ends stop h in
@@ -97,77 +97,77 @@ blobs-front start (end ∷ ends) heap more (t ∷ ts) stop h within =
     let low = rise-le end ends stop rest in
     ap₂ (λ b bs. blob t b ∷ bs) (slice-of-front start end heap more first (omega arith)) (blobs-front end ends heap more ts stop rest within)
 
-pub blobs-cut : (start : ℕ) (ends heap : List ℕ) (there : List Bool) (stop : ℕ) → IsTrue (rise start ends stop) → stop ≤ length heap → blobs_from start ends (take stop heap) there ≡ blobs_from start ends heap there
-blobs-cut start ends heap there stop h within =
+pub blobs-cut : (start : ℕ) (ends heap : List ℕ) (validity : List Bool) (stop : ℕ) → IsTrue (rise start ends stop) → stop ≤ length heap → blobs_from start ends (take stop heap) validity ≡ blobs_from start ends heap validity
+blobs-cut start ends heap validity stop h within =
     let long : stop ≤ length (take stop heap) = omega (arith, length-take-le stop heap within) in
-    sym (blobs-front start ends (take stop heap) (drop stop heap) there stop h long) ∙ ap (λ (g : List ℕ). blobs_from start ends g there) (take-append-drop stop heap)
+    sym (blobs-front start ends (take stop heap) (drop stop heap) validity stop h long) ∙ ap (λ (g : List ℕ). blobs_from start ends g validity) (take-append-drop stop heap)
 
-pub blobs-take : (n start : ℕ) (ends heap : List ℕ) (there : List Bool) → blobs_from start (take n ends) heap (take n there) ≡ take n (blobs_from start ends heap there)
-blobs-take zero start ends heap there = refl
-blobs-take (suc n) start [] heap there = refl
+pub blobs-take : (n start : ℕ) (ends heap : List ℕ) (validity : List Bool) → blobs_from start (take n ends) heap (take n validity) ≡ take n (blobs_from start ends heap validity)
+blobs-take zero start ends heap validity = refl
+blobs-take (suc n) start [] heap validity = refl
 blobs-take (suc n) start (end ∷ ends) heap [] = refl
 blobs-take (suc n) start (end ∷ ends) heap (t ∷ ts) = ap (λ bs. blob t (slice_range heap start end) ∷ bs) (blobs-take n end ends heap ts)
 
-pub blobs-back : (k start : ℕ) (ends heap more : List ℕ) (there : List Bool) → k ≡ length heap → blobs_from (k + start) (map (λ e. k + e) ends) (heap ++ more) there ≡ blobs_from start ends more there
-blobs-back k start [] heap more there is = refl
+pub blobs-back : (k start : ℕ) (ends heap more : List ℕ) (validity : List Bool) → k ≡ length heap → blobs_from (k + start) (map (λ e. k + e) ends) (heap ++ more) validity ≡ blobs_from start ends more validity
+blobs-back k start [] heap more validity is = refl
 blobs-back k start (end ∷ ends) heap more [] is = refl
 blobs-back k start (end ∷ ends) heap more (t ∷ ts) is = ap₂ (λ b bs. blob t b ∷ bs) (slice-of-back k start end heap more is) (blobs-back k end ends heap more ts is)
 
 -- what stands at a place
-pub blobs-at : (i start : ℕ) (ends heap : List ℕ) (there : List Bool) (t : Bool) (d : ℕ) → length ends ≡ length there → i < length ends → blob_at (slice_get (blobs_from start ends heap there) i) ≡ blob (get_or there i t) (slice_range heap (start_at start ends i) (get_or ends i d))
-blobs-at i start [] heap there t d long low = absurd (omega arith)
+pub blobs-at : (i start : ℕ) (ends heap : List ℕ) (validity : List Bool) (t : Bool) (d : ℕ) → length ends ≡ length validity → i < length ends → blob_at (slice_get (blobs_from start ends heap validity) i) ≡ blob (get_or validity i t) (slice_range heap (start_at start ends i) (get_or ends i d))
+blobs-at i start [] heap validity t d long low = absurd (omega arith)
 blobs-at i start (end ∷ ends) heap [] t d long low = absurd (omega arith)
 blobs-at zero start (end ∷ ends) heap (u ∷ us) t d long low = refl
 blobs-at (suc i) start (end ∷ ends) heap (u ∷ us) t d long low = blobs-at i end ends heap us t d (omega arith) (omega arith)
 
 -- nothing stands past the end
-pub blobs-past : (i start : ℕ) (ends heap : List ℕ) (there : List Bool) → length there ≤ i → blob_at (slice_get (blobs_from start ends heap there) i) ≡ None
-blobs-past i start [] heap there past = refl
+pub blobs-past : (i start : ℕ) (ends heap : List ℕ) (validity : List Bool) → length validity ≤ i → blob_at (slice_get (blobs_from start ends heap validity) i) ≡ None
+blobs-past i start [] heap validity past = refl
 blobs-past i start (end ∷ ends) heap [] past = refl
 blobs-past zero start (end ∷ ends) heap (t ∷ ts) past = absurd (omega arith)
 blobs-past (suc i) start (end ∷ ends) heap (t ∷ ts) past = blobs-past i end ends heap ts (omega arith)
 
 -- one more
 
-pub blobs-push : (ends heap bytes : List ℕ) (there : List Bool) (t : Bool) → AreBlobs ends heap there → blobs (ends ++ length (heap ++ bytes) ∷ []) (heap ++ bytes) (there ++ t ∷ []) ≡ blobs ends heap there ++ blob t bytes ∷ []
-blobs-push ends heap bytes there t h =
-    blobs-append 0 ends (length (heap ++ bytes) ∷ []) (heap ++ bytes) there (t ∷ []) (length heap) h.long h.rising
-    ∙ ap₂ (λ (bs : List (Option (List ℕ))) (b : List ℕ). bs ++ blob t b ∷ []) (blobs-front 0 ends heap bytes there (length heap) h.rising (omega arith)) (slice-of-all-back heap bytes)
+pub blobs-push : (ends heap bytes : List ℕ) (validity : List Bool) (t : Bool) → AreBlobs ends heap validity → blobs (ends ++ length (heap ++ bytes) ∷ []) (heap ++ bytes) (validity ++ t ∷ []) ≡ blobs ends heap validity ++ blob t bytes ∷ []
+blobs-push ends heap bytes validity t h =
+    blobs-append 0 ends (length (heap ++ bytes) ∷ []) (heap ++ bytes) validity (t ∷ []) (length heap) h.long h.rising
+    ∙ ap₂ (λ (bs : List (Option (List ℕ))) (b : List ℕ). bs ++ blob t b ∷ []) (blobs-front 0 ends heap bytes validity (length heap) h.rising (omega arith)) (slice-of-all-back heap bytes)
 
-pub AreBlobs-push : (ends heap bytes : List ℕ) (there : List Bool) (t : Bool) → AreBlobs ends heap there → AreBlobs (ends ++ length (heap ++ bytes) ∷ []) (heap ++ bytes) (there ++ t ∷ [])
-AreBlobs-push ends heap bytes there t h =
+pub AreBlobs-push : (ends heap bytes : List ℕ) (validity : List Bool) (t : Bool) → AreBlobs ends heap validity → AreBlobs (ends ++ length (heap ++ bytes) ∷ []) (heap ++ bytes) (validity ++ t ∷ [])
+AreBlobs-push ends heap bytes validity t h =
     let stop = length (heap ++ bytes) in
     record {
-      long = let many = h.long in omega (arith, length-append ends (stop ∷ []), length-append there (t ∷ []));
+      long = let many = h.long in omega (arith, length-append ends (stop ∷ []), length-append validity (t ∷ []));
       rising = rise-append 0 ends (stop ∷ []) (length heap) stop h.rising (rise-cons (length heap) stop [] stop (omega (arith, length-append heap bytes)) (eq-eqb stop stop refl));
     }
 
 -- the first ones
 
-pub blobs-truncate : (n : ℕ) (ends heap : List ℕ) (there : List Bool) → AreBlobs ends heap there → n ≤ length ends → blobs (take n ends) (take (start_at 0 ends n) heap) (take n there) ≡ take n (blobs ends heap there)
-blobs-truncate n ends heap there h low =
-    blobs-cut 0 (take n ends) heap (take n there) (start_at 0 ends n) (rise-take n 0 ends (length heap) h.rising low) (start_at-le n 0 ends (length heap) h.rising low)
-    ∙ blobs-take n 0 ends heap there
+pub blobs-truncate : (n : ℕ) (ends heap : List ℕ) (validity : List Bool) → AreBlobs ends heap validity → n ≤ length ends → blobs (take n ends) (take (start_at 0 ends n) heap) (take n validity) ≡ take n (blobs ends heap validity)
+blobs-truncate n ends heap validity h low =
+    blobs-cut 0 (take n ends) heap (take n validity) (start_at 0 ends n) (rise-take n 0 ends (length heap) h.rising low) (start_at-le n 0 ends (length heap) h.rising low)
+    ∙ blobs-take n 0 ends heap validity
 
-pub AreBlobs-truncate : (n : ℕ) (ends heap : List ℕ) (there : List Bool) → AreBlobs ends heap there → n ≤ length ends → AreBlobs (take n ends) (take (start_at 0 ends n) heap) (take n there)
-AreBlobs-truncate n ends heap there h low =
+pub AreBlobs-truncate : (n : ℕ) (ends heap : List ℕ) (validity : List Bool) → AreBlobs ends heap validity → n ≤ length ends → AreBlobs (take n ends) (take (start_at 0 ends n) heap) (take n validity)
+AreBlobs-truncate n ends heap validity h low =
     let many = h.long in
     let long = length-take-le (start_at 0 ends n) heap (start_at-le n 0 ends (length heap) h.rising low) in
     record {
-      long = omega (arith, length-take-le n ends low, length-take-le n there (omega arith));
+      long = omega (arith, length-take-le n ends low, length-take-le n validity (omega arith));
       rising = subst (λ (k : ℕ). IsTrue (rise 0 (take n ends) k)) (sym long) (rise-take n 0 ends (length heap) h.rising low);
     }
 
 -- others behind them
 
-pub blobs-join : (ends heap more others : List ℕ) (there those : List Bool) → AreBlobs ends heap there → blobs (ends ++ map (λ e. length heap + e) more) (heap ++ others) (there ++ those) ≡ blobs ends heap there ++ blobs more others those
-blobs-join ends heap more others there those h =
+pub blobs-join : (ends heap more others : List ℕ) (validity those : List Bool) → AreBlobs ends heap validity → blobs (ends ++ map (λ e. length heap + e) more) (heap ++ others) (validity ++ those) ≡ blobs ends heap validity ++ blobs more others those
+blobs-join ends heap more others validity those h =
     let here : length heap ≡ length heap + 0 = omega arith in
-    blobs-append 0 ends (map (λ e. length heap + e) more) (heap ++ others) there those (length heap) h.long h.rising
-    ∙ ap₂ (λ (bs cs : List (Option (List ℕ))). bs ++ cs) (blobs-front 0 ends heap others there (length heap) h.rising (omega arith)) (ap (λ (k : ℕ). blobs_from k (map (λ e. length heap + e) more) (heap ++ others) those) here ∙ blobs-back (length heap) 0 more heap others those refl)
+    blobs-append 0 ends (map (λ e. length heap + e) more) (heap ++ others) validity those (length heap) h.long h.rising
+    ∙ ap₂ (λ (bs cs : List (Option (List ℕ))). bs ++ cs) (blobs-front 0 ends heap others validity (length heap) h.rising (omega arith)) (ap (λ (k : ℕ). blobs_from k (map (λ e. length heap + e) more) (heap ++ others) those) here ∙ blobs-back (length heap) 0 more heap others those refl)
 
-pub AreBlobs-join : (ends heap more others : List ℕ) (there those : List Bool) → AreBlobs ends heap there → AreBlobs more others those → AreBlobs (ends ++ map (λ e. length heap + e) more) (heap ++ others) (there ++ those)
-AreBlobs-join ends heap more others there those h g =
+pub AreBlobs-join : (ends heap more others : List ℕ) (validity those : List Bool) → AreBlobs ends heap validity → AreBlobs more others those → AreBlobs (ends ++ map (λ e. length heap + e) more) (heap ++ others) (validity ++ those)
+AreBlobs-join ends heap more others validity those h g =
     let many = h.long in
     let others_many = g.long in
     let here : length heap + 0 ≡ length heap = omega arith in
@@ -175,6 +175,6 @@ AreBlobs-join ends heap more others there those h g =
     let moved = rise-shift (length heap) 0 more (length others) g.rising in
     let behind = subst (λ (k : ℕ). IsTrue (rise k (map (λ e. length heap + e) more) (length heap + length others))) here moved in
     record {
-      long = omega (arith, length-append ends (map (λ e. length heap + e) more), length-map more (λ (e : ℕ). length heap + e), length-append there those);
+      long = omega (arith, length-append ends (map (λ e. length heap + e) more), length-map more (λ (e : ℕ). length heap + e), length-append validity those);
       rising = rise-append 0 ends (map (λ e. length heap + e) more) (length heap) (length (heap ++ others)) h.rising (subst (λ (k : ℕ). IsTrue (rise (length heap) (map (λ e. length heap + e) more) k)) long behind);
     }
