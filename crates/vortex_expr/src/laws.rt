@@ -3,7 +3,7 @@
 ghost use Rattle.std.specs.Str.{chars};
 ghost use Rattle.vortex_expr.specs.Worked.ExpressionExamples.{LikeExamples, TypingExamples};
 ghost use Rattle.vortex_expr.specs.Worked.ExpressionExamples.{AggregateExamples, BindingExamples};
-ghost use Rattle.vortex_expr.specs.Worked.ExpressionExamples.{MeaningExamples};
+ghost use Rattle.vortex_expr.specs.Worked.ExpressionExamples.{ConnectiveExamples, MeaningExamples};
 ghost use Rattle.vortex_expr.specs.Meanings.Fitting.{RowsFit, RowsMatch};
 ghost use Rattle.vortex_expr.specs.Meanings.Meaning.{MeaningFits, MeaningIsTyped};
 ghost use Rattle.vortex_expr.specs.Meanings.Meaning.{NullOnlyWhereNullable};
@@ -18,9 +18,10 @@ pub fn texts_are_below_successors(beginning: &str)
     ensures { AreBelowSuccessor (chars beginning.now) }
 {}
 
-/// Worked cases of the definitions of expressions: LIKE, typing, binding and meaning.
+/// Worked cases of the definitions of expressions: LIKE, connectives, typing, binding and meaning.
 pub fn expression_examples_hold()
     ensures like { LikeExamples }
+    ensures connectives { ConnectiveExamples }
     ensures typing { TypingExamples }
     ensures aggregates { AggregateExamples }
     ensures binding { BindingExamples }

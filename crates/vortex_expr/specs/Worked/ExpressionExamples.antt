@@ -8,6 +8,7 @@ use Rattle.vortex_base.specs.declared.pvalue.PValue.TheVariants as number
 use Rattle.vortex_base.specs.declared.scalar_value.ScalarValue.{ScalarValue}
 use Rattle.vortex_base.specs.declared.scalar_value.ScalarValue.TheVariants as value
 use Rattle.vortex_base.specs.declared.error.BaseError.TheVariants.{UnknownColumn, TypeFault, Unsupported, Placeholder, RowShape}
+use Rattle.vortex_expr.specs.declared.scalar_fn.Connective.TheVariants as connective
 use Rattle.vortex_expr.specs.declared.scalar_fn.Operator.TheVariants as operator
 use Rattle.vortex_expr.specs.declared.scalar_fn.BetweenOptions.{BetweenOptions}
 use Rattle.vortex_expr.specs.declared.scalar_fn.StrictComparison.TheVariants.{Strict, NonStrict}
@@ -15,6 +16,7 @@ use Rattle.vortex_base.specs.declared.aggregate.AggregateFnRef.TheVariants as ag
 use Rattle.vortex_expr.specs.declared.like.Item.TheVariants as item
 use Rattle.vortex_base.specs.Data.Scalars.{Constant}
 use Rattle.vortex_expr.specs.Patterns.Like.{items, like_text, matches, plain}
+use Rattle.vortex_expr.specs.Trees.Connectives.{for_truth, is_and, operator_of}
 use Rattle.vortex_expr.specs.Trees.Tree.{Tree, Place, column, literal, binary, between, is_null, is_not_null, not, like, stat, row_count, is_plain, is_closed}
 use Rattle.vortex_base.specs.Data.States.{state_dtype}
 use Rattle.vortex_expr.specs.Meanings.Typing.{type_of}
@@ -45,6 +47,17 @@ pub record LikeExamples : Type 0 where
   pub other_case : like_text true (195 ∷ 137 ∷ []) text_e_acute ≡ false
   pub case_of_the_text_regarded : like_text false (codes "pre%") (codes "PreFIX") ≡ false
   pub negated : matches (record { negated = true; case_insensitive = false }) (codes "a%") (codes "b") ≡ true
+
+-- what joins a chain
+pub record ConnectiveExamples : Type 0 where
+  pub and : is_and connective.And ≡ true
+  pub or : is_and connective.Or ≡ false
+  pub operator_of_and : operator_of true ≡ operator.And
+  pub operator_of_or : operator_of false ≡ operator.Or
+  pub and_for_true : for_truth true true ≡ true
+  pub and_for_false : for_truth true false ≡ false
+  pub or_for_true : for_truth false true ≡ false
+  pub or_for_false : for_truth false false ≡ true
 
 abbrev pub bool_type : DType
 bool_type = dtype.Bool NonNullable

@@ -27,6 +27,18 @@ returns-clause-like c = record {
   negated = refl;
 }
 
+pub returns-clause-connectives : goal.returns-clause-connectives
+returns-clause-connectives c = record {
+  and = refl;
+  or = refl;
+  operator_of_and = refl;
+  operator_of_or = refl;
+  and_for_true = refl;
+  and_for_false = refl;
+  or_for_true = refl;
+  or_for_false = refl;
+}
+
 pub returns-clause-typing : goal.returns-clause-typing
 returns-clause-typing c = record {
   comparison = refl;
