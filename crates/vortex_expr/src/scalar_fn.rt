@@ -32,7 +32,7 @@ pub enum Connective {
 impl Connective {
     ghost use Rattle.vortex_expr.specs.Trees.Connectives.{for_truth, is_and, operator_of};
 
-    /// Its operator.
+    /// Returns the operator by which a chain joins two predicates.
     pub fn operator(self) -> Operator
         ensures { result ≡ operator_of (is_and self) }
     {
@@ -42,7 +42,8 @@ impl Connective {
         }
     }
 
-    /// The truth that makes no difference to what it is joined with: true for AND, false for OR.
+    /// Returns the truth that makes no difference to what it is joined with: true for AND, false
+    /// for OR.
     pub fn unit(self) -> bool
         ensures { result ≡ is_and self }
     {
@@ -52,8 +53,8 @@ impl Connective {
         }
     }
 
-    /// How tests of the operands are joined to one of whether the whole has a truth: by this
-    /// connective for true, and by the other one for false, since NOT (a AND b) is NOT a OR NOT b.
+    /// Returns the connective that joins tests of the operands to one of whether the whole has a
+    /// truth: this one for true, the other one for false, since NOT (a AND b) is NOT a OR NOT b.
     pub fn for_truth(self, wanted: bool) -> Connective
         ensures { is_and result ≡ for_truth (is_and self) wanted }
     {
