@@ -143,7 +143,7 @@ fn answer(alloc: Global, predicate: Built) -> Result<bool, StatsError> {
 }
 
 #[test]
-fn no_predicate_is_refused(rt: HostRuntime) {
+fn a_number_is_no_predicate(rt: HostRuntime) {
     let alloc = rt.alloc();
     let found = answer(alloc, int(alloc, 5));
     assert!(rt; matches!(found, Err(StatsError::NotPredicate)));
