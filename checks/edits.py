@@ -100,6 +100,11 @@ def goals_at(function, goals):
     return goals.get(function, set()) | alone | shared
 
 
+def is_listed(goal, listed):
+    """Whether a goal is one of those listed: one of several clauses may be listed whole or by its clauses, and be left open in the other way."""
+    return bool({goal, goal.partition("-clause-")[0]} & listed) or any(it.startswith(f"{goal}-clause-") for it in listed)
+
+
 class Crate:
     """A crate whose edits are tried, with those that were refused before on the same sources."""
 
@@ -125,9 +130,7 @@ class Crate:
         folders, told = unplanted.listed(self.name, sorted({name for names in turned.values() for name in names}), room, f"{room}/goals")
         if folders is None:
             return {it: f"the goals of the crate as it stands can't be listed: {told}" for it in self.left}
-        # A goal of several clauses may be listed whole, and one of them be left open.
-        names = {it: {self.goals[it], (self.goals[it] or "").partition("-clause-")[0]} for it in self.left}
-        stands = {it: bool(names[it] & unplanted.goals_of(turned[it], folders)) for it in self.left}
+        stands = {it: is_listed(self.goals[it] or "", unplanted.goals_of(turned[it], folders)) for it in self.left}
         told = lambda it: f"{', '.join(turned[it]) or 'no function'} has {'a' if stands[it] else 'no'} goal {self.goals[it]} as the crate stands"
         return {it: told(it) for it in self.left if stands[it] == (it in self.made)}
 
