@@ -1,0 +1,4 @@
+pub mod FirstDay
+pub mod Capping
+pub mod Moving
+pub mod WorkedRows

@@ -1,0 +1,5 @@
+pub mod Dates
+pub mod Clocks
+pub mod Numbers
+pub mod Intervals
+pub mod Worked

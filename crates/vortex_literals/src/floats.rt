@@ -1,0 +1,26 @@
+//! Texts of floats.
+ghost use Rattle.std.specs.Prelude.{◌≡◌, MatchOption, None, Some};
+ghost use Rattle.std.specs.Float.Ieee.{binary64, of_bits};
+ghost use Rattle.fast_float.specs.Parse.{parse_float};
+
+// Returns the bits of a number, or those of one NaN.
+fn bits_of(number: f64) -> u64
+    ensures { of_bits binary64 result ≡ number }
+{
+    if number.is_nan() {
+        return 0x7FF8_0000_0000_0000;
+    }
+    number.to_bits()
+}
+
+/// Reads a text as the float of 64 bits that is nearest to its number, and returns the float's
+/// bits. `None` where the text isn't a number, `inf` or `nan`, with or without a sign.
+pub fn read_float64(text: &[u8]) -> Option<u64>
+    ensures { MatchOption result (parse_float binary64 text.now ≡ None)
+        (λ bits. parse_float binary64 text.now ≡ Some (of_bits binary64 bits)) }
+{
+    match fast_float::parse::<f64, _>(text) {
+        Ok(number) => Some(bits_of(number)),
+        Err(_) => None,
+    }
+}

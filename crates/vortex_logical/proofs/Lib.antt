@@ -1,0 +1,16 @@
+pub mod Orders
+pub mod Products
+pub mod Dividing
+pub mod Placing
+pub mod Clamping
+pub mod ByteOrder
+pub mod Columns
+pub mod FloatOrder
+pub mod FloatKeys
+pub mod FloatMeanings
+pub mod HalfKeys
+pub mod FloatTests
+pub mod Conditioned
+pub mod Bounded
+pub mod Placed
+pub mod WorkedRows

@@ -1,0 +1,9 @@
+pub mod Meaning
+pub mod Points
+pub mod Lowering
+pub mod LogicalTypes
+pub mod Sortable
+pub mod Halves
+pub mod Floats
+pub mod Conditions
+pub mod Worked
