@@ -1,0 +1,3 @@
+pub mod CellKeys
+pub mod Saying
+pub mod WorkedRows

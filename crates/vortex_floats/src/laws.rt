@@ -1,0 +1,15 @@
+//! Laws of this layer, in the words of its definitions. The functions carry them by their
+//! contracts.
+ghost use Rattle.vortex_floats.specs.Cells.{CellsStandForFloats};
+ghost use Rattle.vortex_floats.specs.Worked.{CellExamples, NumberExamples};
+
+/// The cell that holds the whole number of a float stands for that float.
+pub fn cells_stand_for_floats()
+    ensures { CellsStandForFloats }
+{}
+
+/// The worked rows hold.
+pub fn examples_hold()
+    ensures cells { CellExamples }
+    ensures numbers { NumberExamples }
+{}
