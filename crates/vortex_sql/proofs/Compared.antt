@@ -1,14 +1,14 @@
--- Values of one type compare as SQL's values do, and a number that a type lacks as the type's bound.
-use Rattle.std.proofs.Common.{◌≡◌, ℕ, zero, suc, Bool, true, false, List, refl, sym, ◌∙◌, ap, subst, arith}
+-- Values of one type compare as SQL's values do, and a column's numbers with a literal as its values do.
+use Rattle.std.proofs.Common.{◌≡◌, ◌<◌, ℕ, zero, suc, Bool, true, false, List, refl, sym, ◌∙◌, ap, subst, arith}
 use Rattle.std.proofs.lemmas.Bool.Decides.{nat_tests}
 use Rattle.std.proofs.lemmas.Int.{ints}
-use Rattle.std.proofs.lemmas.Cmp.{int_ranked, nat_cmp_total, int_cmp_total, nat_list_cmp_total, tied_itself}
+use Rattle.std.proofs.lemmas.Cmp.{nat_cmp_total, int_cmp_total, nat_list_cmp_total, tied_itself}
 use Rattle.std.specs.Cmp.{IsTotalOrder}
 use Rattle.std.specs.Cmp.Lexicographic.{slice_cmp}
-use Rattle.std.specs.Ordering.{nat_cmp, int_cmp, ordering_then, ordering_reverse, MatchOrdering, is_lt, is_eq, is_gt}
+use Rattle.std.specs.Ordering.{nat_cmp, int_cmp, ordering_then, ordering_reverse}
 use Rattle.std.specs.declared.cmp.Ordering.{Ordering}
 use Rattle.std.specs.declared.cmp.Ordering.TheVariants.{Less, Equal, Greater}
-use Rattle.std.specs.Prelude.{not as not_b, ℤ, pos, negsuc, ◌<ℤ◌, ◌≤ℤ◌, int_le, Option, Some, None, ◌==◌, ◌&&◌, if◌then◌else◌, option_map}
+use Rattle.std.specs.Prelude.{ℤ, pos, negsuc, ◌*ℤ◌, ◌≤ℤ◌, int_le, Option, Some, None, ◌==◌, ◌&&◌, if◌then◌else◌, option_map, unwrap_or}
 use Rattle.vortex_base.specs.Data.Exact.{both_true}
 use Rattle.vortex_base.specs.declared.types.PType.{PType}
 use Rattle.vortex_base.specs.declared.types.PType.TheVariants as ptype
@@ -23,10 +23,27 @@ use Rattle.vortex_base.specs.Data.Values.{kind_index, value_cmp, is_value, numbe
 use Rattle.vortex_base.specs.Data.Scalars.{is_optional_value}
 use Rattle.vortex_expr.specs.Meanings.Meaning.{applied, holds}
 use Rattle.vortex_expr.specs.Meanings.Meaning as meanings
-use Rattle.vortex_sql.specs.declared.syntax.tree.Comparison.{Comparison}
-use Rattle.vortex_sql.specs.declared.syntax.tree.Comparison.TheVariants as comparison
-use Rattle.vortex_sql.specs.Sql.{Item, truth, number as whole, fraction, text, binary, item_of, item_cmp, against_fraction, compared, operator_of, flipped, rank}
-use Rattle.vortex_sql.specs.Numbers.{sized, with_least, with_greatest, least_of, greatest_of, clamped_by, clamped, fractional}
+use Rattle.vortex_logical.specs.declared.comparison.Comparison.{Comparison}
+use Rattle.vortex_logical.specs.declared.comparison.Comparison.TheVariants as comparison
+use Rattle.vortex_logical.specs.declared.exact.Step.{Step}
+use Rattle.vortex_logical.specs.declared.logical_type.ExactKind.{ExactKind}
+use Rattle.vortex_logical.specs.declared.logical_type.ExactKind.TheVariants.{Number, Clock, Instant, TimeOfDay}
+use Rattle.vortex_logical.specs.declared.logical_type.LogicalType.{LogicalType}
+use Rattle.vortex_logical.specs.declared.logical_type.LogicalType.TheVariants.{Date, Time, Timestamp, TimestampTz, Decimal}
+use Rattle.vortex_logical.specs.Lowering.{IsIn, lowered}
+use Rattle.vortex_logical.specs.Meaning.{Fraction, fraction_cmp, over, steps}
+use Rattle.vortex_logical.specs.Meaning as logical
+use Rattle.vortex_logical.specs.Points.{IsShort, place_of}
+use Rattle.vortex_logical.proofs.Clamping.{lowered_in}
+use Rattle.vortex_logical.proofs.Orders.{le_is_true, le_true}
+use Rattle.vortex_logical.proofs.Placed.{compare_is, steps_cmp}
+use Rattle.vortex_logical.proofs.Products.{product_le, product_once}
+use Rattle.vortex_sql.specs.declared.syntax.tree.ExactNumber.{ExactNumber}
+use Rattle.vortex_sql.specs.declared.typing.KindFit.{KindFit}
+use Rattle.vortex_sql.specs.declared.typing.KindFit.TheVariants.{Same, ByZone, Other}
+use Rattle.vortex_sql.specs.Sql.{Item, truth, exact, text, binary, item_of, item_cmp, exact_cmp, exact_item, compared, operator_of, flipped, rank}
+use Rattle.vortex_sql.specs.Typing.{are_same_cells, is_same, kind_fit, kind_of, step_of}
+use Rattle.vortex_sql.specs.Numbers.{sized, sized_in, least_of, range_of}
 
 then-equal : (o : Ordering) → ordering_then o Equal ≡ o
 then-equal Less = refl
@@ -71,14 +88,35 @@ kinds (value.Utf8 b) t h = cc
 kinds (value.Binary b) (dtype.Binary n) h = refl
 kinds (value.Binary b) t h = cc
 
+fit_itself : (k : ExactKind) → kind_fit k k ≡ Same
+fit_itself Number = refl
+fit_itself Clock = refl
+fit_itself Instant = refl
+fit_itself TimeOfDay = refl
+
+each_positive : (l : Option LogicalType) → 0 < (step_of l).each
+each_positive None = omega arith
+each_positive (Some Date) = omega arith
+each_positive (Some (Time u)) = omega arith
+each_positive (Some (Timestamp u)) = omega arith
+each_positive (Some (TimestampTz u)) = omega arith
+each_positive (Some (Decimal d)) = omega arith
+
+-- the cells of a column compare as their numbers
+cells_cmp : (l : Option LogicalType) (a b : ℤ) → exact_cmp (kind_fit (kind_of l) (kind_of l)) (steps (step_of l) a) (steps (step_of l) b) ≡ Some (int_cmp a b)
+cells_cmp l a b =
+    ap (λ w. exact_cmp w (steps (step_of l) a) (steps (step_of l) b)) (fit_itself (kind_of l))
+    ∙ ap Some (steps_cmp (step_of l) a b (each_positive l))
+
 -- values of one type compare as SQL's values do
-pub cmp_is : (v w : ScalarValue) (t : DType) → is_value v t ≡ true → is_value w t ≡ true → item_cmp (item_of v) (item_of w) ≡ Some (value_cmp v w)
-cmp_is (value.Bool a) (value.Bool b) (dtype.Bool n) h k = bools_cmp a b
-cmp_is (value.Primitive p) (value.Primitive q) (dtype.Primitive t n) h k =
-    ap Some (sym (numbers_cmp p q (same_index _ _ (ptype_index t) (both_true _ _ h).0 (both_true _ _ k).0)))
-cmp_is (value.Utf8 a) (value.Utf8 b) (dtype.Utf8 n) h k = refl
-cmp_is (value.Binary a) (value.Binary b) (dtype.Binary n) h k = refl
-cmp_is v w t h k = let e : kind_index v ≡ kind_index w = kinds v t h ∙ sym (kinds w t k) in cc
+pub cmp_is : (l : Option LogicalType) (v w : ScalarValue) (t : DType) → is_value v t ≡ true → is_value w t ≡ true → item_cmp (item_of l v) (item_of l w) ≡ Some (value_cmp v w)
+cmp_is l (value.Bool a) (value.Bool b) (dtype.Bool n) h k = bools_cmp a b
+cmp_is l (value.Primitive p) (value.Primitive q) (dtype.Primitive t n) h k =
+    cells_cmp l (number_of p) (number_of q)
+    ∙ ap Some (sym (numbers_cmp p q (same_index _ _ (ptype_index t) (both_true _ _ h).0 (both_true _ _ k).0)))
+cmp_is l (value.Utf8 a) (value.Utf8 b) (dtype.Utf8 n) h k = refl
+cmp_is l (value.Binary a) (value.Binary b) (dtype.Binary n) h k = refl
+cmp_is l v w t h k = let e : kind_index v ≡ kind_index w = kinds v t h ∙ sym (kinds w t k) in cc
 
 -- ---- comparisons of two optional values
 
@@ -91,15 +129,46 @@ applied-compared comparison.Gte a b = refl
 applied-compared comparison.Lt a b = refl
 applied-compared comparison.Lte a b = refl
 
-values_compared : (c : Comparison) (a b : Option ScalarValue) (t : DType) → is_optional_value a (as_nullable t) ≡ true → is_optional_value b (as_nullable t) ≡ true
-    → meanings.compared (operator_of c) a b ≡ compared c (option_map item_of a) (option_map item_of b)
-values_compared c None b t h k = refl
-values_compared c (Some v) None t h k = refl
-values_compared c (Some v) (Some w) t h k = ap (option_map (holds (operator_of c))) (sym (cmp_is v w (as_nullable t) h k))
+values_compared : (c : Comparison) (l : Option LogicalType) (a b : Option ScalarValue) (t : DType) → is_optional_value a (as_nullable t) ≡ true → is_optional_value b (as_nullable t) ≡ true
+    → meanings.compared (operator_of c) a b ≡ compared c (option_map (item_of l) a) (option_map (item_of l) b)
+values_compared c l None b t h k = refl
+values_compared c l (Some v) None t h k = refl
+values_compared c l (Some v) (Some w) t h k = ap (option_map (holds (operator_of c))) (sym (cmp_is l v w (as_nullable t) h k))
 
-pub optional_compared : (c : Comparison) (a b : Option ScalarValue) (t : DType) → is_optional_value a (as_nullable t) ≡ true → is_optional_value b (as_nullable t) ≡ true
-    → applied (operator_of c) a b ≡ compared c (option_map item_of a) (option_map item_of b)
-optional_compared c a b t h k = applied-compared c a b ∙ values_compared c a b t h k
+pub optional_compared : (c : Comparison) (l : Option LogicalType) (a b : Option ScalarValue) (t : DType) → is_optional_value a (as_nullable t) ≡ true → is_optional_value b (as_nullable t) ≡ true
+    → applied (operator_of c) a b ≡ compared c (option_map (item_of l) a) (option_map (item_of l) b)
+optional_compared c l a b t h k = applied-compared c a b ∙ values_compared c l a b t h k
+
+-- ---- cells that stand for the same values
+
+fit_same : (k l : ExactKind) → is_same (kind_fit k l) ≡ true → l ≡ k
+fit_same Number Number h = refl
+fit_same Clock Clock h = refl
+fit_same Instant Instant h = refl
+fit_same TimeOfDay TimeOfDay h = refl
+fit_same k l h = cc
+
+same_number : (a b : ℕ) → (a == b) ≡ true → b ≡ a
+same_number a b h = grind (arith, nat_tests)
+
+abbrev step_with : ℕ → ℕ → Step
+step_with each scale = record { each = each; scale = scale }
+
+abbrev item_with : ExactKind → Step → ℤ → Item
+item_with k s n = exact k (steps s n)
+
+-- columns whose cells stand for the same values have the same items
+pub same_items : (l m : Option LogicalType) (v : ScalarValue) → are_same_cells l m ≡ true → item_of m v ≡ item_of l v
+same_items l m (value.Bool b) h = refl
+same_items l m (value.Primitive p) h =
+    let tests = both_true _ _ h in
+    let first = both_true _ _ tests.0 in
+    let kinds : kind_of m ≡ kind_of l = fit_same (kind_of l) (kind_of m) first.0 in
+    let one : step_of m ≡ step_of l =
+    ap (λ e. step_with e (step_of m).scale) (same_number (step_of l).each (step_of m).each first.1) ∙ ap (step_with (step_of l).each) (same_number (step_of l).scale (step_of m).scale tests.1) in
+    ap (λ k. item_with k (step_of m) (number_of p)) kinds ∙ ap (λ s. item_with (kind_of l) s (number_of p)) one
+same_items l m (value.Utf8 bs) h = refl
+same_items l m (value.Binary bs) h = refl
 
 -- ---- operands changed about
 
@@ -131,11 +200,33 @@ reversed_twice Greater = refl
 turned : (c : Comparison) {K : Type 0} (R : K → K → Ordering) → IsTotalOrder R → (x y : K) → option_map (holds (operator_of (flipped c))) (Some (R y x)) ≡ option_map (holds (operator_of c)) (Some (R x y))
 turned c R total x y = ap Some (flipped_holds c (R y x) ∙ ap (holds (operator_of c)) (sym (total.antisymm x y)))
 
+fit_turned : (k l : ExactKind) → kind_fit l k ≡ kind_fit k l
+fit_turned Number Number = refl
+fit_turned Number Clock = refl
+fit_turned Number Instant = refl
+fit_turned Number TimeOfDay = refl
+fit_turned Clock Number = refl
+fit_turned Clock Clock = refl
+fit_turned Clock Instant = refl
+fit_turned Clock TimeOfDay = refl
+fit_turned Instant Number = refl
+fit_turned Instant Clock = refl
+fit_turned Instant Instant = refl
+fit_turned Instant TimeOfDay = refl
+fit_turned TimeOfDay Number = refl
+fit_turned TimeOfDay Clock = refl
+fit_turned TimeOfDay Instant = refl
+fit_turned TimeOfDay TimeOfDay = refl
+
+exact_turned : (c : Comparison) (w : KindFit) (a b : Fraction) → option_map (holds (operator_of (flipped c))) (exact_cmp w b a) ≡ option_map (holds (operator_of c)) (exact_cmp w a b)
+exact_turned c Same a b = turned c int_cmp int_cmp_total (a.top *ℤ pos b.under) (b.top *ℤ pos a.under)
+exact_turned c ByZone a b = refl
+exact_turned c Other a b = refl
+
 pub items_flipped : (c : Comparison) (x y : Item) → compared (flipped c) (Some y) (Some x) ≡ compared c (Some x) (Some y)
 items_flipped c (truth a) (truth b) = turned c int_cmp int_cmp_total (rank a) (rank b)
-items_flipped c (whole a) (whole b) = turned c int_cmp int_cmp_total a b
-items_flipped c (whole a) (fraction z) = ap Some (flipped_holds c (ordering_reverse (against_fraction a z)) ∙ ap (holds (operator_of c)) (reversed_twice (against_fraction a z)))
-items_flipped c (fraction z) (whole b) = ap Some (flipped_holds c (against_fraction b z))
+items_flipped c (exact k a) (exact l b) =
+    ap (λ w. option_map (holds (operator_of (flipped c))) (exact_cmp w b a)) (fit_turned k l) ∙ exact_turned c (kind_fit k l) a b
 items_flipped c (text a) (text b) = turned c (slice_cmp nat_cmp) nat_list_cmp_total a b
 items_flipped c (binary a) (binary b) = turned c (slice_cmp nat_cmp) nat_list_cmp_total a b
 items_flipped c x y = refl
@@ -145,74 +236,6 @@ flipped_compared c (Some x) (Some y) = items_flipped c x y
 flipped_compared c None (Some y) = refl
 flipped_compared c None None = refl
 flipped_compared c (Some x) None = refl
-
--- ---- numbers that a type lacks
-
-least_holds : (c : Comparison) (o : Ordering) → is_lt o ≡ false → holds (operator_of (with_least c)) o ≡ holds (operator_of c) Greater
-least_holds c Less h = cc
-least_holds comparison.Eq Equal h = refl
-least_holds comparison.Eq Greater h = refl
-least_holds comparison.NotEq Equal h = refl
-least_holds comparison.NotEq Greater h = refl
-least_holds comparison.Gt Equal h = refl
-least_holds comparison.Gt Greater h = refl
-least_holds comparison.Gte Equal h = refl
-least_holds comparison.Gte Greater h = refl
-least_holds comparison.Lt Equal h = refl
-least_holds comparison.Lt Greater h = refl
-least_holds comparison.Lte Equal h = refl
-least_holds comparison.Lte Greater h = refl
-
-greatest_holds : (c : Comparison) (o : Ordering) → is_gt o ≡ false → holds (operator_of (with_greatest c)) o ≡ holds (operator_of c) Less
-greatest_holds c Greater h = cc
-greatest_holds comparison.Eq Equal h = refl
-greatest_holds comparison.Eq Less h = refl
-greatest_holds comparison.NotEq Equal h = refl
-greatest_holds comparison.NotEq Less h = refl
-greatest_holds comparison.Gt Equal h = refl
-greatest_holds comparison.Gt Less h = refl
-greatest_holds comparison.Gte Equal h = refl
-greatest_holds comparison.Gte Less h = refl
-greatest_holds comparison.Lt Equal h = refl
-greatest_holds comparison.Lt Less h = refl
-greatest_holds comparison.Lte Equal h = refl
-greatest_holds comparison.Lte Less h = refl
-
--- an order that its number's facts rule out
-is_less : (o : Ordering) (x y : ℤ) → MatchOrdering o (x <ℤ y) (x ≡ y) (y <ℤ x) → x <ℤ y → o ≡ Less
-is_less Less x y h k = refl
-is_less Equal x y h k = absurd (omega (arith, ints))
-is_less Greater x y h k = absurd (omega (arith, ints))
-
-is_greater : (o : Ordering) (x y : ℤ) → MatchOrdering o (x <ℤ y) (x ≡ y) (y <ℤ x) → y <ℤ x → o ≡ Greater
-is_greater Less x y h k = absurd (omega (arith, ints))
-is_greater Equal x y h k = absurd (omega (arith, ints))
-is_greater Greater x y h k = refl
-
-not_less : (o : Ordering) (x y : ℤ) → MatchOrdering o (x <ℤ y) (x ≡ y) (y <ℤ x) → y ≤ℤ x → is_lt o ≡ false
-not_less Less x y h k = absurd (omega (arith, ints))
-not_less Equal x y h k = refl
-not_less Greater x y h k = refl
-
-not_greater : (o : Ordering) (x y : ℤ) → MatchOrdering o (x <ℤ y) (x ≡ y) (y <ℤ x) → x ≤ℤ y → is_gt o ≡ false
-not_greater Less x y h k = refl
-not_greater Equal x y h k = refl
-not_greater Greater x y h k = absurd (omega (arith, ints))
-
-below : (c : Comparison) (m l z : ℤ) → l ≤ℤ m → z <ℤ l → holds (operator_of (with_least c)) (int_cmp m l) ≡ holds (operator_of c) (int_cmp m z)
-below c m l z h k =
-    let less : z <ℤ m = omega (arith, ints) in
-    least_holds c (int_cmp m l) (not_less _ m l (int_ranked m l (int_cmp m l) refl) h)
-    ∙ ap (holds (operator_of c)) (sym (is_greater _ m z (int_ranked m z (int_cmp m z) refl) less))
-
-above : (c : Comparison) (m g z : ℤ) → m ≤ℤ g → g <ℤ z → holds (operator_of (with_greatest c)) (int_cmp m g) ≡ holds (operator_of c) (int_cmp m z)
-above c m g z h k =
-    let less : m <ℤ z = omega (arith, ints) in
-    greatest_holds c (int_cmp m g) (not_greater _ m g (int_ranked m g (int_cmp m g) refl) h)
-    ∙ ap (holds (operator_of c)) (sym (is_less _ m z (int_ranked m z (int_cmp m z) refl) less))
-
-le_from : (x y : ℤ) → int_le x y ≡ true → x ≤ℤ y
-le_from x y h = grind (arith, ints)
 
 -- ---- numbers of a type
 
@@ -267,179 +290,138 @@ sized_type ptype.I16 z = refl
 sized_type ptype.I32 z = refl
 sized_type ptype.I64 z = refl
 
-least_is : (q : PType) → number_of (least_of q) ≡ least q
-least_is ptype.U8 = refl
-least_is ptype.U16 = refl
-least_is ptype.U32 = refl
-least_is ptype.U64 = refl
-least_is ptype.I8 = refl
-least_is ptype.I16 = refl
-least_is ptype.I32 = refl
-least_is ptype.I64 = refl
+-- ---- a column of numbers with a literal
 
-greatest_is : (q : PType) → number_of (greatest_of q) ≡ greatest q
-greatest_is ptype.U8 = refl
-greatest_is ptype.U16 = refl
-greatest_is ptype.U32 = refl
-greatest_is ptype.U64 = refl
-greatest_is ptype.I8 = refl
-greatest_is ptype.I16 = refl
-greatest_is ptype.I32 = refl
-greatest_is ptype.I64 = refl
+within_is : (q : PType) (z : ℤ) → IsIn (range_of q) z → within q z ≡ true
+within_is q z h = ap (λ b. b && int_le z (greatest q)) (le_is_true (least q) z h.0) ∙ le_is_true z (greatest q) h.1
 
--- a number below zero that a type lacks is below its least, and another one above its greatest
-too_low : (q : PType) (n : ℕ) → within q (negsuc n) ≡ false → negsuc n <ℤ least q
-too_low ptype.U8 n h = grind (arith, ints)
-too_low ptype.U16 n h = grind (arith, ints)
-too_low ptype.U32 n h = grind (arith, ints)
-too_low ptype.U64 n h = grind (arith, ints)
-too_low ptype.I8 n h = grind (arith, ints)
-too_low ptype.I16 n h = grind (arith, ints)
-too_low ptype.I32 n h = grind (arith, ints)
-too_low ptype.I64 n h = grind (arith, ints)
+is_within : (q : PType) (z : ℤ) → within q z ≡ true → IsIn (range_of q) z
+is_within q z h = let b = both_true _ _ h in (le_true (least q) z b.0, le_true z (greatest q) b.1)
 
-too_high : (q : PType) (n : ℕ) → within q (pos n) ≡ false → greatest q <ℤ pos n
-too_high ptype.U8 n h = grind (arith, ints)
-too_high ptype.U16 n h = grind (arith, ints)
-too_high ptype.U32 n h = grind (arith, ints)
-too_high ptype.U64 n h = grind (arith, ints)
-too_high ptype.I8 n h = grind (arith, ints)
-too_high ptype.I16 n h = grind (arith, ints)
-too_high ptype.I32 n h = grind (arith, ints)
-too_high ptype.I64 n h = grind (arith, ints)
+sized_in-is : (q : PType) (z : ℤ) → IsIn (range_of q) z → sized_in q z ≡ sized q z
+sized_in-is q z h = ap (λ b. unwrap_or (if b then Some (sized q z) else None) (least_of q)) (within_is q z h)
 
--- a number m of the type compares with the bound as with z
-abbrev Compares : Comparison → PValue → ℤ → Comparison × PValue → Type 0
-Compares c m z to = holds (operator_of to.0) (value_cmp (value.Primitive m) (value.Primitive to.1)) ≡ holds (operator_of c) (int_cmp (number_of m) z)
+ascends : (q : PType) → least q ≤ℤ greatest q
+ascends ptype.U8 = omega (arith, ints)
+ascends ptype.U16 = omega (arith, ints)
+ascends ptype.U32 = omega (arith, ints)
+ascends ptype.U64 = omega (arith, ints)
+ascends ptype.I8 = omega (arith, ints)
+ascends ptype.I16 = omega (arith, ints)
+ascends ptype.I32 = omega (arith, ints)
+ascends ptype.I64 = omega (arith, ints)
 
--- with a number x of the type of m, by their sizes
-compares : (c d : Comparison) (m x : PValue) (z y : ℤ) → ptype_index (ptype_of m) ≡ ptype_index (ptype_of x) → number_of x ≡ y
-    → holds (operator_of d) (int_cmp (number_of m) y) ≡ holds (operator_of c) (int_cmp (number_of m) z) → Compares c m z (d, x)
-compares c d m x z y same is h =
-    ap (holds (operator_of d)) (numbers_cmp m x same ∙ ap (int_cmp (number_of m)) is) ∙ h
+abbrev IsOf64Bits : ℤ → Type 0
+IsOf64Bits n = (negsuc 18_446_744_073_709_551_615 ≤ℤ n) × (n ≤ℤ pos 18_446_744_073_709_551_615)
 
-clamped_compares : (c : Comparison) (q : PType) (z : ℤ) (m : PValue) (b : Bool) → ptype_of m ≡ q → within q (number_of m) ≡ true → within q z ≡ b
-    → Compares c m z (clamped_by c q z (if b then Some (sized q z) else None))
-clamped_compares c q z m true type range e =
-    compares c c m (sized q z) z z (ap ptype_index (type ∙ sym (sized_type q z))) (sized_is q z e) refl
-clamped_compares c q (negsuc n) m false type range e =
-    compares c (with_least c) m (least_of q) (negsuc n) (least q) (ap ptype_index (type ∙ sym (sized_type q (least q)))) (least_is q)
-    (below c (number_of m) (least q) (negsuc n) (le_from _ _ (both_true _ _ range).0) (too_low q n e))
-clamped_compares c q (pos n) m false type range e =
-    compares c (with_greatest c) m (greatest_of q) (pos n) (greatest q) (ap ptype_index (type ∙ sym (sized_type q (greatest q)))) (greatest_is q)
-    (above c (number_of m) (greatest q) (pos n) (le_from _ _ (both_true _ _ range).1) (too_high q n e))
+of_64_bits : (q : PType) (n : ℤ) → IsIn (range_of q) n → IsOf64Bits n
+of_64_bits ptype.U8 n h = (omega (arith, ints), omega (arith, ints))
+of_64_bits ptype.U16 n h = (omega (arith, ints), omega (arith, ints))
+of_64_bits ptype.U32 n h = (omega (arith, ints), omega (arith, ints))
+of_64_bits ptype.U64 n h = (omega (arith, ints), omega (arith, ints))
+of_64_bits ptype.I8 n h = (omega (arith, ints), omega (arith, ints))
+of_64_bits ptype.I16 n h = (omega (arith, ints), omega (arith, ints))
+of_64_bits ptype.I32 n h = (omega (arith, ints), omega (arith, ints))
+of_64_bits ptype.I64 n h = (omega (arith, ints), omega (arith, ints))
 
-number_holds : (c : Comparison) (q : PType) (z : ℤ) (m : PValue) → ((ptype_index (ptype_of m) == ptype_index q) && in_range m) ≡ true → Compares c m z (clamped c q z)
-number_holds c q z m h =
+short_days : (n : ℤ) → IsOf64Bits n → IsShort (n *ℤ pos 86_400)
+short_days n h =
+    let l = product_le (negsuc 18_446_744_073_709_551_615) n 86_400 h.0 in
+    let g = product_le n (pos 18_446_744_073_709_551_615) 86_400 h.1 in
+    (omega (arith, ints), omega (arith, ints))
+
+short_once : (n : ℤ) → IsOf64Bits n → IsShort (n *ℤ pos 1)
+short_once n h = let P : ℤ → Type 0 = IsShort in subst P (sym (product_once n)) (omega (arith, ints), omega (arith, ints))
+
+short_number : (l : Option LogicalType) (n : ℤ) → IsOf64Bits n → IsShort (n *ℤ pos (step_of l).each)
+short_number None n h = short_once n h
+short_number (Some Date) n h = short_days n h
+short_number (Some (Time u)) n h = short_once n h
+short_number (Some (Timestamp u)) n h = short_once n h
+short_number (Some (TimestampTz u)) n h = short_once n h
+short_number (Some (Decimal d)) n h = short_once n h
+
+-- a comparison of expressions holds as one of columns
+same_holds : (c : Comparison) (o : Ordering) → holds (operator_of c) o ≡ logical.holds c o
+same_holds comparison.Eq Less = refl
+same_holds comparison.Eq Equal = refl
+same_holds comparison.Eq Greater = refl
+same_holds comparison.NotEq Less = refl
+same_holds comparison.NotEq Equal = refl
+same_holds comparison.NotEq Greater = refl
+same_holds comparison.Gt Less = refl
+same_holds comparison.Gt Equal = refl
+same_holds comparison.Gt Greater = refl
+same_holds comparison.Gte Less = refl
+same_holds comparison.Gte Equal = refl
+same_holds comparison.Gte Greater = refl
+same_holds comparison.Lt Less = refl
+same_holds comparison.Lt Equal = refl
+same_holds comparison.Lt Greater = refl
+same_holds comparison.Lte Less = refl
+same_holds comparison.Lte Equal = refl
+same_holds comparison.Lte Greater = refl
+
+-- a number of the type passes the test as its value the comparison
+tested : (c : Comparison) (l : Option LogicalType) (q : PType) (top : ℤ) (scale : ℕ) (m : PValue) → ptype_of m ≡ q → IsIn (range_of q) (number_of m)
+    → let r = lowered c (place_of (step_of l) top scale) (range_of q) in
+    holds (operator_of r.comparison) (value_cmp (value.Primitive m) (value.Primitive (sized_in q r.number))) ≡ holds (operator_of c) (fraction_cmp (steps (step_of l) (number_of m)) (over top scale))
+tested c l q top scale m type range =
+    let s = step_of l in
+    let r = lowered c (place_of s top scale) (range_of q) in
+    let inside : IsIn (range_of q) r.number = lowered_in c (place_of s top scale) (range_of q) (ascends q) in
+    let same : ptype_index (ptype_of m) ≡ ptype_index (ptype_of (sized q r.number)) = ap ptype_index (type ∙ sym (sized_type q r.number)) in
+    ap (λ x. holds (operator_of r.comparison) (value_cmp (value.Primitive m) (value.Primitive x))) (sized_in-is q r.number inside)
+    ∙ ap (holds (operator_of r.comparison)) (numbers_cmp m (sized q r.number) same ∙ ap (int_cmp (number_of m)) (sized_is q r.number (within_is q r.number inside)))
+    ∙ same_holds r.comparison (int_cmp (number_of m) r.number)
+    ∙ sym (compare_is s top scale c (range_of q) (number_of m) (each_positive l) range (short_number l (number_of m) (of_64_bits q (number_of m) range)))
+    ∙ sym (same_holds c (fraction_cmp (steps s (number_of m)) (over top scale)))
+
+number_tested : (c : Comparison) (l : Option LogicalType) (q : PType) (x : ExactNumber) (m : PValue) → kind_fit (kind_of l) x.kind ≡ Same → ((ptype_index (ptype_of m) == ptype_index q) && in_range m) ≡ true
+    → let r = lowered c (place_of (step_of l) x.top x.scale) (range_of q) in
+    option_map (holds (operator_of r.comparison)) (Some (value_cmp (value.Primitive m) (value.Primitive (sized_in q r.number)))) ≡ compared c (Some (item_of l (value.Primitive m))) (Some (exact_item x))
+number_tested c l q x m fit h =
     let both = both_true _ _ h in
     let type : ptype_of m ≡ q = same_ptype _ _ (same_index _ _ (ptype_index q) both.0 (equal_itself (ptype_index q))) in
     let range : within q (number_of m) ≡ true = subst (λ (p : PType). within p (number_of m) ≡ true) type both.1 in
-    clamped_compares c q z m (within q z) type range refl
+    let a = steps (step_of l) (number_of m) in
+    let b = over x.top x.scale in
+    ap Some (tested c l q x.top x.scale m type (is_within q (number_of m) range))
+    ∙ ap (λ w. option_map (holds (operator_of c)) (exact_cmp w a b)) (sym fit)
 
--- a column of numbers with any whole number
-pub number_compared : (c : Comparison) (q : PType) (n : Nullability) (z : ℤ) (v : Option ScalarValue) → is_optional_value v (dtype.Primitive q n) ≡ true
-    → applied (operator_of (clamped c q z).0) v (Some (value.Primitive (clamped c q z).1)) ≡ compared c (option_map item_of v) (Some (whole z))
-number_compared c q n z None h = applied-compared (clamped c q z).0 None (Some (value.Primitive (clamped c q z).1))
-number_compared c q n z (Some (value.Primitive m)) h =
-    applied-compared (clamped c q z).0 (Some (value.Primitive m)) (Some (value.Primitive (clamped c q z).1)) ∙ ap Some (number_holds c q z m h)
-number_compared c q n z (Some v) h = cc
-
--- ---- a column of numbers with one above a whole number and below the next
-
-gt_false : (x y : ℤ) → int_le x y ≡ true → is_gt (int_cmp x y) ≡ false
-gt_false x y h = not_greater _ x y (int_ranked x y (int_cmp x y) refl) (le_from x y h)
-
-lt_from : (x y : ℤ) → int_le x y ≡ false → y <ℤ x
-lt_from x y h = grind (arith, ints)
-
-gt_true : (x y : ℤ) → int_le x y ≡ false → is_gt (int_cmp x y) ≡ true
-gt_true x y h = ap is_gt (is_greater _ x y (int_ranked x y (int_cmp x y) refl) (lt_from x y h))
-
-abbrev order_if : Bool → Ordering
-order_if b = if b then Less else Greater
-
-gt_of_fraction : (m z : ℤ) (b : Bool) → int_le m z ≡ b → is_gt (int_cmp m z) ≡ is_gt (order_if b)
-gt_of_fraction m z true h = gt_false m z h
-gt_of_fraction m z false h = gt_true m z h
-
-gte_of_fraction : (m z : ℤ) (b : Bool) → int_le m z ≡ b → is_gt (int_cmp m z) ≡ not_b (is_lt (order_if b))
-gte_of_fraction m z true h = gt_false m z h
-gte_of_fraction m z false h = gt_true m z h
-
-lte_of_fraction : (m z : ℤ) (b : Bool) → int_le m z ≡ b → not_b (is_gt (int_cmp m z)) ≡ is_lt (order_if b)
-lte_of_fraction m z true h = ap not_b (gt_false m z h)
-lte_of_fraction m z false h = ap not_b (gt_true m z h)
-
-lt_of_fraction : (m z : ℤ) (b : Bool) → int_le m z ≡ b → not_b (is_gt (int_cmp m z)) ≡ not_b (is_gt (order_if b))
-lt_of_fraction m z true h = ap not_b (gt_false m z h)
-lt_of_fraction m z false h = ap not_b (gt_true m z h)
-
-never_equal : (b : Bool) → is_eq (order_if b) ≡ false
-never_equal true = refl
-never_equal false = refl
-
-at_greatest : (c : Comparison) (q : PType) → clamped c q (greatest q) ≡ (c, greatest_of q)
-at_greatest c ptype.U8 = refl
-at_greatest c ptype.U16 = refl
-at_greatest c ptype.U32 = refl
-at_greatest c ptype.U64 = refl
-at_greatest c ptype.I8 = refl
-at_greatest c ptype.I16 = refl
-at_greatest c ptype.I32 = refl
-at_greatest c ptype.I64 = refl
-
--- a number of the type compares with this number as with one above z and below the next
-abbrev AsFraction : Comparison → PValue → ℤ → Comparison × PValue → Type 0
-AsFraction c m z to = holds (operator_of to.0) (value_cmp (value.Primitive m) (value.Primitive to.1)) ≡ holds (operator_of c) (against_fraction (number_of m) z)
-
-below_greatest : (q : PType) (m : PValue) → ((ptype_index (ptype_of m) == ptype_index q) && in_range m) ≡ true → int_le (number_of m) (greatest q) ≡ true
-below_greatest q m h =
-    let both = both_true _ _ h in
-    let type : ptype_of m ≡ q = same_ptype _ _ (same_index _ _ (ptype_index q) both.0 (equal_itself (ptype_index q))) in
-    (both_true _ _ (subst (λ (p : PType). within p (number_of m) ≡ true) type both.1)).1
-
-fraction_holds : (c : Comparison) (q : PType) (z : ℤ) (m : PValue) → ((ptype_index (ptype_of m) == ptype_index q) && in_range m) ≡ true → AsFraction c m z (fractional c q z)
-fraction_holds comparison.Gt q z m h = number_holds comparison.Gt q z m h ∙ gt_of_fraction (number_of m) z (int_le (number_of m) z) refl
-fraction_holds comparison.Gte q z m h = number_holds comparison.Gt q z m h ∙ gte_of_fraction (number_of m) z (int_le (number_of m) z) refl
-fraction_holds comparison.Lt q z m h = number_holds comparison.Lte q z m h ∙ lte_of_fraction (number_of m) z (int_le (number_of m) z) refl
-fraction_holds comparison.Lte q z m h = number_holds comparison.Lte q z m h ∙ lt_of_fraction (number_of m) z (int_le (number_of m) z) refl
-fraction_holds comparison.Eq q z m h =
-    let P : Comparison × PValue → Type 0 = λ to. Compares comparison.Gt m (greatest q) to in
-    let none : Compares comparison.Gt m (greatest q) (comparison.Gt, greatest_of q) = subst P (at_greatest comparison.Gt q) (number_holds comparison.Gt q (greatest q) m h) in
-    none ∙ gt_false (number_of m) (greatest q) (below_greatest q m h) ∙ sym (never_equal (int_le (number_of m) z))
-fraction_holds comparison.NotEq q z m h =
-    let P : Comparison × PValue → Type 0 = λ to. Compares comparison.Lte m (greatest q) to in
-    let all : Compares comparison.Lte m (greatest q) (comparison.Lte, greatest_of q) = subst P (at_greatest comparison.Lte q) (number_holds comparison.Lte q (greatest q) m h) in
-    all ∙ ap not_b (gt_false (number_of m) (greatest q) (below_greatest q m h)) ∙ ap not_b (sym (never_equal (int_le (number_of m) z)))
-
-pub fraction_compared : (c : Comparison) (q : PType) (n : Nullability) (z : ℤ) (v : Option ScalarValue) → is_optional_value v (dtype.Primitive q n) ≡ true
-    → applied (operator_of (fractional c q z).0) v (Some (value.Primitive (fractional c q z).1)) ≡ compared c (option_map item_of v) (Some (fraction z))
-fraction_compared c q n z None h = applied-compared (fractional c q z).0 None (Some (value.Primitive (fractional c q z).1))
-fraction_compared c q n z (Some (value.Primitive m)) h =
-    applied-compared (fractional c q z).0 (Some (value.Primitive m)) (Some (value.Primitive (fractional c q z).1)) ∙ ap Some (fraction_holds c q z m h)
-fraction_compared c q n z (Some v) h = cc
+-- a column of numbers with a literal number of what its cells count
+pub exact_compared : (c : Comparison) (l : Option LogicalType) (q : PType) (n : Nullability) (x : ExactNumber) (v : Option ScalarValue) → kind_fit (kind_of l) x.kind ≡ Same → is_optional_value v (dtype.Primitive q n) ≡ true
+    → let r = lowered c (place_of (step_of l) x.top x.scale) (range_of q) in
+    applied (operator_of r.comparison) v (Some (value.Primitive (sized_in q r.number))) ≡ compared c (option_map (item_of l) v) (Some (exact_item x))
+exact_compared c l q n x None fit h =
+    let r = lowered c (place_of (step_of l) x.top x.scale) (range_of q) in
+    applied-compared r.comparison None (Some (value.Primitive (sized_in q r.number)))
+exact_compared c l q n x (Some (value.Primitive m)) fit h =
+    let r = lowered c (place_of (step_of l) x.top x.scale) (range_of q) in
+    applied-compared r.comparison (Some (value.Primitive m)) (Some (value.Primitive (sized_in q r.number))) ∙ number_tested c l q x m fit h
+exact_compared c l q n x (Some v) fit h = cc
 
 -- a column of texts with a text
-pub text_compared : (c : Comparison) (n : Nullability) (bs : List ℕ) (v : Option ScalarValue) → is_optional_value v (dtype.Utf8 n) ≡ true
-    → applied (operator_of c) v (Some (value.Utf8 bs)) ≡ compared c (option_map item_of v) (Some (text bs))
-text_compared c n bs None h = applied-compared c None (Some (value.Utf8 bs))
-text_compared c n bs (Some (value.Utf8 a)) h = applied-compared c (Some (value.Utf8 a)) (Some (value.Utf8 bs))
-text_compared c n bs (Some v) h = cc
+pub text_compared : (c : Comparison) (l : Option LogicalType) (n : Nullability) (bs : List ℕ) (v : Option ScalarValue) → is_optional_value v (dtype.Utf8 n) ≡ true
+    → applied (operator_of c) v (Some (value.Utf8 bs)) ≡ compared c (option_map (item_of l) v) (Some (text bs))
+text_compared c l n bs None h = applied-compared c None (Some (value.Utf8 bs))
+text_compared c l n bs (Some (value.Utf8 a)) h = applied-compared c (Some (value.Utf8 a)) (Some (value.Utf8 bs))
+text_compared c l n bs (Some v) h = cc
 
 -- of bytes with bytes
-pub binary_compared : (c : Comparison) (n : Nullability) (bs : List ℕ) (v : Option ScalarValue) → is_optional_value v (dtype.Binary n) ≡ true
-    → applied (operator_of c) v (Some (value.Binary bs)) ≡ compared c (option_map item_of v) (Some (binary bs))
-binary_compared c n bs None h = applied-compared c None (Some (value.Binary bs))
-binary_compared c n bs (Some (value.Binary a)) h = applied-compared c (Some (value.Binary a)) (Some (value.Binary bs))
-binary_compared c n bs (Some v) h = cc
+pub binary_compared : (c : Comparison) (l : Option LogicalType) (n : Nullability) (bs : List ℕ) (v : Option ScalarValue) → is_optional_value v (dtype.Binary n) ≡ true
+    → applied (operator_of c) v (Some (value.Binary bs)) ≡ compared c (option_map (item_of l) v) (Some (binary bs))
+binary_compared c l n bs None h = applied-compared c None (Some (value.Binary bs))
+binary_compared c l n bs (Some (value.Binary a)) h = applied-compared c (Some (value.Binary a)) (Some (value.Binary bs))
+binary_compared c l n bs (Some v) h = cc
 
 -- of truths with a truth
-pub truth_compared : (c : Comparison) (n : Nullability) (b : Bool) (v : Option ScalarValue) → is_optional_value v (dtype.Bool n) ≡ true
-    → applied (operator_of c) v (Some (value.Bool b)) ≡ compared c (option_map item_of v) (Some (truth b))
-truth_compared c n b None h = applied-compared c None (Some (value.Bool b))
-truth_compared c n b (Some (value.Bool a)) h =
+pub truth_compared : (c : Comparison) (l : Option LogicalType) (n : Nullability) (b : Bool) (v : Option ScalarValue) → is_optional_value v (dtype.Bool n) ≡ true
+    → applied (operator_of c) v (Some (value.Bool b)) ≡ compared c (option_map (item_of l) v) (Some (truth b))
+truth_compared c l n b None h = applied-compared c None (Some (value.Bool b))
+truth_compared c l n b (Some (value.Bool a)) h =
     applied-compared c (Some (value.Bool a)) (Some (value.Bool b)) ∙ ap (option_map (holds (operator_of c))) (sym (bools_cmp a b))
-truth_compared c n b (Some v) h = cc
+truth_compared c l n b (Some v) h = cc
 
 -- ---- types made nullable
 

@@ -1,15 +1,16 @@
 -- A misfit of a part is one of the whole.
-use Rattle.std.proofs.Common.{◌≡◌, ℕ, List, [], ◌∷◌, ◌++◌, false, length, sym, ap, subst, ◌∙◌}
-use Rattle.vortex_base.specs.Data.Scopes.{Named}
+use Rattle.std.proofs.Common.{◌≡◌, ℕ, List, [], ◌∷◌, ◌++◌, Result, Ok, Err, IfErr, false, length, sym, ap, subst, ◌∙◌}
 use Rattle.vortex_sql.specs.Parsing.Joining.{Joins, ands}
 use Rattle.vortex_sql.specs.Parsing.Places.{Ascends, leaves}
 use Rattle.vortex_sql.specs.declared.syntax.tree.Condition.{Condition}
 use Rattle.vortex_sql.specs.declared.syntax.tree.Leaf.{Leaf}
 use Rattle.vortex_sql.specs.declared.lower.LowerError.{LowerError}
 use Rattle.vortex_sql.specs.declared.lower.LowerError.TheVariants.{Memory, Misfit}
+use Rattle.vortex_sql.specs.declared.condition.Predicate.{Predicate}
 use Rattle.vortex_sql.specs.declared.error.SqlError.{SqlError}
 use Rattle.vortex_sql.specs.declared.error.SqlError.TheVariants as sql
-use Rattle.vortex_sql.specs.Refusals.{IsOfName, IsRefusal, IsTextRefusal, misfits, of_lower}
+use Rattle.vortex_sql.specs.Schemas.{SchemaData}
+use Rattle.vortex_sql.specs.Refusals.{IsOfName, IsRefusal, IsSchemaRefusal, IsTextRefusal, misfits, of_lower}
 
 pub of_left : (ls ms : List Leaf) (f : LowerError) → IsRefusal ls f → IsRefusal (ls ++ ms) f
 of_left ls ms Memory h = tt
@@ -22,15 +23,27 @@ of_right ls ms f none h = let P : List Leaf → Type 0 = λ xs. IsRefusal (xs ++
 pub none_of_either : (ls ms : List Leaf) → ls ≡ [] → ms ≡ [] → ls ++ ms ≡ []
 none_of_either ls ms h k = ap (λ xs. xs ++ ms) h ∙ k
 
--- a misfit of the condition that was read is one of its text
-pub text_refused : (text : List ℕ) (scope : List Named) (c : Condition) (f : LowerError) → Ascends 0 (leaves c) (length text) → Joins text 0 (leaves c) (false ∷ ands c) → IsRefusal (misfits scope c) f → IsTextRefusal text scope (of_lower f)
-text_refused text scope c Memory places joined h = tt
-text_refused text scope c (Misfit s e) places joined h = record { condition = c; places = places; joined = joined; first = h }
+-- why a condition isn't said is why it is refused
+pub lower_refused : (s : SchemaData) (c : Condition) (f : LowerError) → IsRefusal (misfits s c) f → IsSchemaRefusal s c (of_lower f)
+lower_refused s c Memory h = tt
+lower_refused s c (Misfit b e) h = h
 
-pub name_refused : (text : List ℕ) (scope : List Named) (e : SqlError) → IsOfName e → IsTextRefusal text scope e
-name_refused text scope sql.Memory h = tt
-name_refused text scope (sql.Syntax e) h = absurd h
-name_refused text scope (sql.Misfit s e) h = absurd h
-name_refused text scope sql.Name h = tt
+pub name_refused : (s : SchemaData) (c : Condition) (e : SqlError) → IsOfName e → IsSchemaRefusal s c e
+name_refused s c sql.Memory h = tt
+name_refused s c (sql.Syntax e) h = absurd h
+name_refused s c (sql.Misfit b e) h = absurd h
+name_refused s c sql.Name h = tt
+
+-- a misfit of the condition that was read is one of its text
+pub text_refused : (text : List ℕ) (s : SchemaData) (c : Condition) (e : SqlError) → Ascends 0 (leaves c) (length text) → Joins text 0 (leaves c) (false ∷ ands c) → IsSchemaRefusal s c e → IsTextRefusal text s e
+text_refused text s c sql.Memory places joined h = tt
+text_refused text s c (sql.Syntax e) places joined h = absurd h
+text_refused text s c (sql.Misfit b e) places joined h = record { condition = c; places = places; joined = joined; first = h }
+text_refused text s c sql.Name places joined h = tt
+
+pub refused_over : (text : List ℕ) (s : SchemaData) (c : Condition) (r : Result Predicate SqlError) → Ascends 0 (leaves c) (length text) → Joins text 0 (leaves c) (false ∷ ands c)
+    → IfErr r (IsSchemaRefusal s c) → IfErr r (IsTextRefusal text s)
+refused_over text s c (Ok p) places joined h = tt
+refused_over text s c (Err e) places joined h = text_refused text s c e places joined h
 
 pub ruleset parts = (of_left, of_right, none_of_either)

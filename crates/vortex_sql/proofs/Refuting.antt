@@ -1,5 +1,5 @@
 -- A predicate that is refuted whatever is told of the leaves that aren't read refutes its condition, and one that is satisfied so confirms it.
-use Rattle.std.proofs.Common.{◌≡◌, ◌≢◌, ◌<◌, ℕ, zero, suc, Bool, true, false, List, [], ◌∷◌, length, refl, ◌∙◌, ap, arith}
+use Rattle.std.proofs.Common.{◌≡◌, ◌≢◌, ◌<◌, ℕ, zero, suc, Bool, true, false, List, [], ◌∷◌, length, refl, sym, subst, ◌∙◌, ap, arith}
 use Rattle.std.proofs.lemmas.Bool.Decides.{nat_tests}
 use Rattle.std.specs.Prelude.{Option, None, Some, map, replicate, slice_get, ◌&&◌, ◌==◌}
 use Rattle.std.specs.List.{list_all}
@@ -15,6 +15,7 @@ use Rattle.vortex_expr.specs.Meanings.Meaning.{truth_value, meaning, is_true}
 use Rattle.vortex_sql.specs.declared.syntax.tree.Leaf.{Leaf}
 use Rattle.vortex_expr.specs.Trees.Tree.{Tree, Place}
 use Rattle.vortex_sql.specs.declared.syntax.tree.Condition.{Condition}
+use Rattle.vortex_sql.specs.Schemas.{SchemaData}
 use Rattle.vortex_sql.specs.Lowering.{IsRowOf, Says, opaques, truth_on, told_cell, with_told}
 use Rattle.vortex_sql.specs.Pruning.{told_column, with_columns, ConfirmsCondition, RefutesCondition}
 
@@ -74,27 +75,28 @@ true_alone None v e h = let p : is_true v ≡ false = ap is_true e in cc
 true_alone (Some false) v e h = let p : is_true v ≡ false = ap is_true e in cc
 true_alone (Some true) v e h = refl
 
-module _ (k : ChunkData) (c : Condition) (e : Tree Place) (is_chunk : IsChunk k) (says : Says k.scope c e) (r : ℕ) (below : r < row_count k.columns) (f : Leaf → Option Bool) where
+module _ (k : ChunkData) (s : SchemaData) (c : Condition) (e : Tree Place) (scoped : s.scope ≡ k.scope) (is_chunk : IsChunk k) (says : Says s c e) (r : ℕ) (below : r < row_count k.columns) (f : Leaf → Option Bool) where
   abbrev own_row : List Constant
   own_row = row_of r k.columns
 
   abbrev wide_row : List Constant
-  wide_row = row_of r (with_columns (row_count k.columns) f (opaques k.scope c) k.columns)
+  wide_row = row_of r (with_columns (row_count k.columns) f (opaques s c) k.columns)
 
-  told : meaning e wide_row (row_count k.columns) ≡ truth_value (truth_on k.scope own_row f c)
+  told : meaning e wide_row (row_count k.columns) ≡ truth_value (truth_on s own_row f c)
   told =
       let shape = (both_true _ _ (both_true _ _ is_chunk).1) in
       let types = both_true _ _ shape.1 in
       let long = (both_true _ _ shape.0).1 in
       let n = row_count k.columns in
-      let is_row : IsRowOf k.scope own_row = is_row_of n r k.scope k.columns types.0 types.1 long below in
-      let same = rows_with n r f (opaques k.scope c) k.columns below in
+      let P : List Named → Type 0 = λ ns. IsRowOf ns own_row in
+      let is_row : IsRowOf s.scope own_row = subst P (sym scoped) (is_row_of n r k.scope k.columns types.0 types.1 long below) in
+      let same = rows_with n r f (opaques s c) k.columns below in
       ap (λ w. meaning e w n) same ∙ says own_row f n is_row
 
 pub refutes : RefutesCondition
-refutes k c e is_chunk says r below none f =
-    not_true (truth_on k.scope (row_of r k.columns) f c) (meaning e (wide_row k c e is_chunk says r below f) (row_count k.columns)) (told k c e is_chunk says r below f) (none f)
+refutes k s c e scoped is_chunk says r below none f =
+    not_true (truth_on s (row_of r k.columns) f c) (meaning e (wide_row k s c e scoped is_chunk says r below f) (row_count k.columns)) (told k s c e scoped is_chunk says r below f) (none f)
 
 pub confirms : ConfirmsCondition
-confirms k c e is_chunk says r below each f =
-    true_alone (truth_on k.scope (row_of r k.columns) f c) (meaning e (wide_row k c e is_chunk says r below f) (row_count k.columns)) (told k c e is_chunk says r below f) (each f)
+confirms k s c e scoped is_chunk says r below each f =
+    true_alone (truth_on s (row_of r k.columns) f c) (meaning e (wide_row k s c e scoped is_chunk says r below f) (row_count k.columns)) (told k s c e scoped is_chunk says r below f) (each f)

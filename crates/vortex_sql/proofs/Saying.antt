@@ -1,15 +1,17 @@
 -- The expression that is said of a condition means what the condition does.
 use Rattle.std.proofs.Common.{◌≡◌, ℕ, zero, suc, ◌+◌, Bool, true, false, List, [], ◌∷◌, ◌++◌, length, refl, sym, ◌∙◌, ap, subst, arith}
-use Rattle.std.specs.Prelude.{◌≤◌, Option, Some, None, Ok, Err, is_none, not as not_b, option_map, slice_get, if◌then◌else◌}
+use Rattle.std.specs.Prelude.{◌≤◌, ◌&&◌, is_some, nat_le, Option, Some, None, Ok, Err, is_none, not as not_b, option_map, slice_get, if◌then◌else◌}
 use Rattle.std.specs.declared.cmp.Ordering.{Ordering}
+use Rattle.vortex_base.specs.declared.types.Nullability.{Nullability}
 use Rattle.vortex_base.specs.declared.types.Nullability.TheVariants.{NonNullable}
+use Rattle.vortex_base.specs.declared.types.PType.{PType}
+use Rattle.vortex_base.specs.Data.Exact.{both_true}
 use Rattle.vortex_base.specs.declared.dtype.DType.{DType}
 use Rattle.vortex_base.specs.declared.dtype.DType.TheVariants as dtype
 use Rattle.vortex_base.specs.declared.scalar_value.ScalarValue.{ScalarValue}
 use Rattle.vortex_base.specs.declared.scalar_value.ScalarValue.TheVariants as value
 use Rattle.vortex_base.specs.Data.Types.{as_nullable, dtype_eq_is_exact, eq_ignore_nullability}
 use Rattle.vortex_base.specs.Data.Scalars.{Constant, is_optional_value}
-use Rattle.vortex_base.specs.Data.Scopes.{Named}
 use Rattle.vortex_base.specs.Data.Columns.{cell_value}
 use Rattle.vortex_expr.specs.declared.scalar_fn.Operator.TheVariants as operator
 use Rattle.vortex_expr.specs.Meanings.Binding.{find_column}
@@ -19,8 +21,14 @@ use Rattle.vortex_expr.specs.Meanings.Typing.{is_bool, is_utf8}
 use Rattle.vortex_expr.specs.Patterns.Like.{plain}
 use Rattle.vortex_expr.specs.Trees.Tree.{Tree, Place, literal, column, binary, like, is_null, is_not_null, not}
 use Rattle.vortex_sql.specs.declared.fault.Fault.TheVariants.{Misfit}
-use Rattle.vortex_sql.specs.declared.syntax.tree.Comparison.{Comparison}
-use Rattle.vortex_sql.specs.declared.syntax.tree.Comparison.TheVariants as comparison
+use Rattle.vortex_logical.specs.declared.comparison.Comparison.{Comparison}
+use Rattle.vortex_logical.specs.declared.comparison.Comparison.TheVariants as comparison
+use Rattle.vortex_logical.specs.declared.logical_type.LogicalType.{LogicalType}
+use Rattle.vortex_sql.specs.declared.syntax.tree.ExactNumber.{ExactNumber}
+use Rattle.vortex_sql.specs.declared.typing.KindFit.{KindFit}
+use Rattle.vortex_sql.specs.declared.typing.KindFit.TheVariants.{Same, ByZone, Other as OtherKind}
+use Rattle.vortex_sql.specs.Schemas.{Field, SchemaData, field_at, find_field, listed}
+use Rattle.vortex_sql.specs.Typing.{are_same_cells, beside, kind_fit, kind_of}
 use Rattle.vortex_sql.specs.declared.syntax.tree.Escape.TheVariants as escape
 use Rattle.vortex_sql.specs.declared.syntax.tree.Operand.{Operand}
 use Rattle.vortex_sql.specs.declared.syntax.tree.Operand.TheVariants as operand
@@ -29,14 +37,14 @@ use Rattle.vortex_sql.specs.declared.syntax.tree.Test.TheVariants as test
 use Rattle.vortex_sql.specs.declared.syntax.tree.Leaf.{Leaf}
 use Rattle.vortex_sql.specs.declared.syntax.tree.Condition.{Condition}
 use Rattle.vortex_sql.specs.declared.syntax.tree.Condition.TheVariants.{Leaf as Leaf', Not', And', Or', IsNull', IsTrue', IsFalse'}
-use Rattle.vortex_sql.specs.Sql.{Item, truth, number, fraction, text, binary as binary_item, item_of, item_cmp, compared, distinct, liked, pattern_of, within, among, truth_of, cell_at, value_in, values_in, test_truth, operator_of, flipped}
-use Rattle.vortex_sql.specs.Numbers.{clamped, fractional}
+use Rattle.vortex_sql.specs.Sql.{Item, truth, exact, text, binary as binary_item, item_of, item_cmp, exact_item, compared, compared_on, distinct, liked, pattern_of, within_on, among_on, truth_of, field_value, value_in, test_truth, operator_of, flipped}
+use Rattle.vortex_sql.specs.Numbers.{sized_in}
 use Rattle.vortex_sql.specs.Halves.{joined, first_of, in_turns, paired}
 use Rattle.vortex_sql.specs.Readings as readings
-use Rattle.vortex_sql.specs.Readings.{Reading, Members, said, unread, literal_of, folded, literals, comparing, constant, with_literal, with_place, with_operand, from_place, from_literal, compare, joined_by, truth_literal, as_truth, as_null_test, literal_null_test, null_test, distinct_from, distinct_at, distinct_literals, distinct_from_literal, distinct_test, between_test, with_member, members_from, any_of, member, like_place, pattern_test, reading}
+use Rattle.vortex_sql.specs.Readings.{Reading, Members, said, unread, literal_of, is_whole, whole_literal, exact_reading, exact_test, testing, of_fit, folded, literals, comparing, constant, with_literal, with_place, with_operand, from_place, from_literal, compare, compare_typed, joined_by, truth_literal, as_truth, as_null_test, literal_null_test, null_test, distinct_from, distinct_at, distinct_literals, distinct_from_literal, distinct_typed, distinct_test, between_test, with_member, members_from, any_of, member, like_place, pattern_test, reading}
 use Rattle.vortex_sql.specs.Lowering.{leaf_tree, leaf_truth, opaque_tree, lowered, opaques, opaque_if, has_truth_test, is_true_tree, is_false_tree, truth_on, is_known_as, IsRowOf, Says, with_told, told_cell}
 use Rattle.vortex_sql.proofs.Cells.{Told, Holds, told, told-left, told-right, column_holds, same_length}
-use Rattle.vortex_sql.proofs.Compared.{optional_compared, items_flipped, flipped_compared, number_compared, fraction_compared, text_compared, binary_compared, truth_compared, weakened}
+use Rattle.vortex_sql.proofs.Compared.{optional_compared, same_items, items_flipped, flipped_compared, exact_compared, text_compared, binary_compared, truth_compared, weakened}
 use Rattle.vortex_sql.proofs.Pairs.{one_left}
 
 truth-value : (a : Option Bool) → meanings.truth (truth_value a) ≡ a
@@ -71,16 +79,14 @@ compared-none c (Some a) = refl
 liked-none : (x : Option Item) → liked x None ≡ None
 liked-none None = refl
 liked-none (Some (truth a)) = refl
-liked-none (Some (number a)) = refl
-liked-none (Some (fraction z)) = refl
+liked-none (Some (exact k a)) = refl
 liked-none (Some (text a)) = refl
 liked-none (Some (binary_item a)) = refl
 
 backslash : (x : Option Item) → pattern_of escape.Backslash x ≡ x
 backslash None = refl
 backslash (Some (truth a)) = refl
-backslash (Some (number a)) = refl
-backslash (Some (fraction z)) = refl
+backslash (Some (exact k a)) = refl
 backslash (Some (text a)) = refl
 backslash (Some (binary_item a)) = refl
 
@@ -122,36 +128,55 @@ same_answer : (o p : Option (Tree Place)) → answered o ≡ answered p → o �
 same_answer o p h = cc
 
 -- a value of a type of truths is the truth that it stands for
-bool_value : (v : Option ScalarValue) (t : DType) → is_bool t ≡ true → is_optional_value v t ≡ true → v ≡ truth_value (truth_of (option_map item_of v))
-bool_value None t b h = refl
-bool_value (Some (value.Bool a)) t b h = refl
-bool_value (Some (value.Primitive a)) (dtype.Bool n) b h = cc
-bool_value (Some (value.Primitive a)) t b h = cc
-bool_value (Some (value.Utf8 a)) (dtype.Bool n) b h = cc
-bool_value (Some (value.Utf8 a)) t b h = cc
-bool_value (Some (value.Binary a)) (dtype.Bool n) b h = cc
-bool_value (Some (value.Binary a)) t b h = cc
+bool_value : (l : Option LogicalType) (v : Option ScalarValue) (t : DType) → is_bool t ≡ true → is_optional_value v t ≡ true → v ≡ truth_value (truth_of (option_map (item_of l) v))
+bool_value l None t b h = refl
+bool_value l (Some (value.Bool a)) t b h = refl
+bool_value l (Some (value.Primitive a)) (dtype.Bool n) b h = cc
+bool_value l (Some (value.Primitive a)) t b h = cc
+bool_value l (Some (value.Utf8 a)) (dtype.Bool n) b h = cc
+bool_value l (Some (value.Utf8 a)) t b h = cc
+bool_value l (Some (value.Binary a)) (dtype.Bool n) b h = cc
+bool_value l (Some (value.Binary a)) t b h = cc
 
-text_liked : (v : Option ScalarValue) (t : DType) (bs : List ℕ) → is_utf8 t ≡ true → is_optional_value v t ≡ true
-    → meanings.liked plain v (Some (value.Utf8 bs)) ≡ liked (option_map item_of v) (Some (text bs))
-text_liked None t bs b h = refl
-text_liked (Some (value.Utf8 a)) t bs b h = refl
-text_liked (Some (value.Bool a)) (dtype.Utf8 n) bs b h = cc
-text_liked (Some (value.Bool a)) t bs b h = cc
-text_liked (Some (value.Primitive a)) (dtype.Utf8 n) bs b h = cc
-text_liked (Some (value.Primitive a)) t bs b h = cc
-text_liked (Some (value.Binary a)) (dtype.Utf8 n) bs b h = cc
-text_liked (Some (value.Binary a)) t bs b h = cc
+text_liked : (l : Option LogicalType) (v : Option ScalarValue) (t : DType) (bs : List ℕ) → is_utf8 t ≡ true → is_optional_value v t ≡ true
+    → meanings.liked plain v (Some (value.Utf8 bs)) ≡ liked (option_map (item_of l) v) (Some (text bs))
+text_liked l None t bs b h = refl
+text_liked l (Some (value.Utf8 a)) t bs b h = refl
+text_liked l (Some (value.Bool a)) (dtype.Utf8 n) bs b h = cc
+text_liked l (Some (value.Bool a)) t bs b h = cc
+text_liked l (Some (value.Primitive a)) (dtype.Utf8 n) bs b h = cc
+text_liked l (Some (value.Primitive a)) t bs b h = cc
+text_liked l (Some (value.Binary a)) (dtype.Utf8 n) bs b h = cc
+text_liked l (Some (value.Binary a)) t bs b h = cc
 
-none_item : (v : Option ScalarValue) → is_none v ≡ is_none (option_map item_of v)
-none_item None = refl
-none_item (Some v) = refl
+none_item : (l : Option LogicalType) (v : Option ScalarValue) → is_none v ≡ is_none (option_map (item_of l) v)
+none_item l None = refl
+none_item l (Some v) = refl
+
+abbrev some_field : Field → Option Field
+some_field f = Some f
+
+same_field : (f g : Field) → some_field f ≡ some_field g → f ≡ g
+same_field f g h = cc
+
+abbrev placed_field : SchemaData → Place → Field
+placed_field s p = record { place = p; logical = listed (slice_get s.logical p.index) }
+
+-- the place of a column
+place_at : (s : SchemaData) (o : Option Place) (f : Field) → field_at s o ≡ Some f → o ≡ Some f.place
+place_at s None f h = cc
+place_at s (Some p) f h = ap (λ (g : Field). Some g.place) (same_field (placed_field s p) f h)
+
+-- a column's values as another's, if their cells stand for the same
+same_values : (l m : Option LogicalType) (v : Option ScalarValue) → are_same_cells l m ≡ true → option_map (item_of m) v ≡ option_map (item_of l) v
+same_values l m None h = refl
+same_values l m (Some v) h = ap Some (same_items l m v h)
 
 by_test : {A : Type 0} (b : Bool) (x y : A) (P : A → Type 0) → (b ≡ true → P x) → (b ≡ false → P y) → P (if b then x else y)
 by_test true x y P f g = f refl
 by_test false x y P f g = g refl
 
-module _ (scope : List Named) (row more : List Constant) (n : ℕ) (is_row : IsRowOf scope row) where
+module _ (s : SchemaData) (row more : List Constant) (n : ℕ) (is_row : IsRowOf s.scope row) where
   -- the expression means this truth
   abbrev Means : Tree Place → Option Bool → Type 0
   Means e b = meaning e (row ++ more) n ≡ truth_value b
@@ -174,12 +199,15 @@ module _ (scope : List Named) (row more : List Constant) (n : ℕ) (is_row : IsR
 
   -- ---- literals
 
-  literal_is : (x : Operand) → IsLiteral (literal_of x) (value_in scope row x)
+  whole_is : (x : ExactNumber) (b : Bool) → IsLiteral (whole_literal x b) (Some (exact_item x))
+  whole_is x true = refl
+  whole_is x false = tt
+
+  literal_is : (x : Operand) → IsLiteral (literal_of x) (value_in s row x)
   literal_is (operand.Column name) = tt
   literal_is operand.Null = refl
   literal_is (operand.Truth b) = refl
-  literal_is (operand.Integer z) = refl
-  literal_is (operand.Fraction z) = tt
+  literal_is (operand.Exact x) = whole_is x (is_whole x)
   literal_is (operand.Text bs) = refl
   literal_is (operand.Binary bs) = refl
   literal_is operand.Other = tt
@@ -223,95 +251,116 @@ module _ (scope : List Named) (row more : List Constant) (n : ℕ) (is_row : IsR
       → Means (comparing d p (literal l)) b
   compared_with c d p l b h q = ap truth_value (ap (λ v. applied (operator_of d) v l.value) h.on_whole ∙ q)
 
-  literal_says : (c : Comparison) (p : Place) (t : DType) (y : Operand) (h : Holds row (row ++ more) p) → is_optional_value h.value t ≡ true
-      → SaysOf (with_literal c p t y) (compared c (option_map item_of h.value) (value_in scope row y))
-  literal_says c p t operand.Other h typed = λ e q. cc
-  literal_says c p t operand.Null h typed = null_says (compared c (option_map item_of h.value) None) (compared-none c (option_map item_of h.value))
-  literal_says c p (dtype.Primitive q m) (operand.Integer z) h typed =
-      from_said _ _ (compared_with c (clamped c q z).0 p (record { dtype = dtype.Primitive q m; value = Some (value.Primitive (clamped c q z).1) }) _ h (number_compared c q m z h.value typed))
-  literal_says c p (dtype.Bool m) (operand.Truth b) h typed =
-      from_said _ _ (compared_with c c p (record { dtype = dtype.Bool m; value = Some (value.Bool b) }) _ h (truth_compared c m b h.value typed))
-  literal_says c p (dtype.Utf8 m) (operand.Text bs) h typed =
-      from_said _ _ (compared_with c c p (record { dtype = dtype.Utf8 m; value = Some (value.Utf8 bs) }) _ h (text_compared c m bs h.value typed))
-  literal_says c p (dtype.Binary m) (operand.Binary bs) h typed =
-      from_said _ _ (compared_with c c p (record { dtype = dtype.Binary m; value = Some (value.Binary bs) }) _ h (binary_compared c m bs h.value typed))
-  literal_says c p (dtype.Primitive q m) (operand.Fraction z) h typed =
-      from_said _ _ (compared_with c (fractional c q z).0 p (record { dtype = dtype.Primitive q m; value = Some (value.Primitive (fractional c q z).1) }) _ h (fraction_compared c q m z h.value typed))
-  literal_says c p t y h typed = λ e q. cc
+  other_kind : (b : Bool) (r : Reading) (v : Option Bool) → SaysOf (of_fit OtherKind b r) v
+  other_kind true r v = λ e p. cc
+  other_kind false r v = λ e p. cc
+
+  exact_says : (c : Comparison) (f : Field) (q : PType) (m : Nullability) (x : ExactNumber) (h : Holds row (row ++ more) f.place) (w : KindFit) → kind_fit (kind_of f.logical) x.kind ≡ w → is_optional_value h.value (dtype.Primitive q m) ≡ true
+      → SaysOf (of_fit w (is_some f.logical) (exact_reading c f q (dtype.Primitive q m) x)) (compared c (option_map (item_of f.logical) h.value) (Some (exact_item x)))
+  exact_says c f q m x h Same fit typed =
+      let r = exact_test c f q x in
+      let b = compared c (option_map (item_of f.logical) h.value) (Some (exact_item x)) in
+      by_test (nat_le x.scale 33) (said (testing r f.place q (dtype.Primitive q m))) unread (λ t. SaysOf t b)
+      (λ short. from_said _ _ (compared_with c r.comparison f.place (record { dtype = dtype.Primitive q m; value = Some (value.Primitive (sized_in q r.number)) }) _ h (exact_compared c f.logical q m x h.value fit typed)))
+      (λ long e p. cc)
+  exact_says c f q m x h ByZone fit typed = λ e p. cc
+  exact_says c f q m x h OtherKind fit typed = other_kind (is_some f.logical) (exact_reading c f q (dtype.Primitive q m) x) (compared c (option_map (item_of f.logical) h.value) (Some (exact_item x)))
+
+  literal_says : (c : Comparison) (f : Field) (t : DType) (y : Operand) (h : Holds row (row ++ more) f.place) → is_optional_value h.value t ≡ true
+      → SaysOf (with_literal c f t y) (compared c (option_map (item_of f.logical) h.value) (value_in s row y))
+  literal_says c f t operand.Other h typed = λ e q. cc
+  literal_says c f t operand.Null h typed = null_says (compared c (option_map (item_of f.logical) h.value) None) (compared-none c (option_map (item_of f.logical) h.value))
+  literal_says c f (dtype.Primitive q m) (operand.Exact x) h typed = exact_says c f q m x h (kind_fit (kind_of f.logical) x.kind) refl typed
+  literal_says c f (dtype.Bool m) (operand.Truth b) h typed =
+      from_said _ _ (compared_with c c f.place (record { dtype = dtype.Bool m; value = Some (value.Bool b) }) _ h (truth_compared c f.logical m b h.value typed))
+  literal_says c f (dtype.Utf8 m) (operand.Text bs) h typed =
+      from_said _ _ (compared_with c c f.place (record { dtype = dtype.Utf8 m; value = Some (value.Utf8 bs) }) _ h (text_compared c f.logical m bs h.value typed))
+  literal_says c f (dtype.Binary m) (operand.Binary bs) h typed =
+      from_said _ _ (compared_with c c f.place (record { dtype = dtype.Binary m; value = Some (value.Binary bs) }) _ h (binary_compared c f.logical m bs h.value typed))
+  literal_says c f t y h typed = λ e q. cc
+
+  -- the column of a name has a value on the row
+  field_holds : (name : List ℕ) (f : Field) → find_field s name ≡ Some f → Holds row (row ++ more) f.place
+  field_holds name f is = column_holds s.scope row more name f.place is_row (place_at s (find_column s.scope name) f is)
 
   -- a column with another one
-  places_say : (c : Comparison) (p q : Place) (h : Holds row (row ++ more) p) (k : Holds row (row ++ more) q) → eq_ignore_nullability p.dtype q.dtype ≡ true
-      → Means (comparing c p (column q)) (compared c (option_map item_of h.value) (option_map item_of k.value))
-  places_say c p q h k same =
-      let types : as_nullable p.dtype ≡ as_nullable q.dtype = (dtype_eq_is_exact (as_nullable p.dtype) (as_nullable q.dtype)).0 same in
-      let second : is_optional_value k.value (as_nullable p.dtype) ≡ true = ap (is_optional_value k.value) types ∙ weakened k.value q.dtype k.typed in
-      ap truth_value (ap (λ v. applied (operator_of c) v (cell_value (slice_get (row ++ more) q.index))) h.on_whole
+  places_say : (c : Comparison) (f g : Field) (h : Holds row (row ++ more) f.place) (k : Holds row (row ++ more) g.place) → (eq_ignore_nullability f.place.dtype g.place.dtype && are_same_cells f.logical g.logical) ≡ true
+      → Means (comparing c f.place (column g.place)) (compared c (option_map (item_of f.logical) h.value) (option_map (item_of g.logical) k.value))
+  places_say c f g h k both =
+      let tests = both_true _ _ both in
+      let types : as_nullable f.place.dtype ≡ as_nullable g.place.dtype = (dtype_eq_is_exact (as_nullable f.place.dtype) (as_nullable g.place.dtype)).0 tests.0 in
+      let second : is_optional_value k.value (as_nullable f.place.dtype) ≡ true = ap (is_optional_value k.value) types ∙ weakened k.value g.place.dtype k.typed in
+      ap truth_value (ap (λ v. applied (operator_of c) v (cell_value (slice_get (row ++ more) g.place.index))) h.on_whole
       ∙ ap (applied (operator_of c) h.value) k.on_whole
-      ∙ optional_compared c h.value k.value p.dtype (weakened h.value p.dtype h.typed) second)
+      ∙ optional_compared c f.logical h.value k.value f.place.dtype (weakened h.value f.place.dtype h.typed) second
+      ∙ ap (compared c (option_map (item_of f.logical) h.value)) (sym (same_values f.logical g.logical k.value tests.1)))
 
-  unless_same : (c : Comparison) (p q : Place) (b : Option Bool) (are_numbers : Bool) → SaysOf (if are_numbers then unread else Err Misfit) b
-  unless_same c p q b true = from_unread b
-  unless_same c p q b false = λ e q. cc
+  unless_same : (b : Option Bool) (are_numbers : Bool) → SaysOf (if are_numbers then unread else Err Misfit) b
+  unless_same b true = from_unread b
+  unless_same b false = λ e q. cc
 
-  place_says : (c : Comparison) (p : Place) (name : List ℕ) (o : Option Place) (h : Holds row (row ++ more) p) → find_column scope name ≡ o
-      → SaysOf (with_place c p o) (compared c (option_map item_of h.value) (option_map item_of (cell_at row o)))
-  place_says c p name None h is = λ e q. cc
-  place_says c p name (Some q) h is =
-      let k = column_holds scope row more name q is_row is in
-      let b = compared c (option_map item_of h.value) (option_map item_of (cell_value (slice_get row q.index))) in
-      by_test (eq_ignore_nullability p.dtype q.dtype) (said (comparing c p (column q))) (if readings.are_numbers p.dtype q.dtype then unread else Err Misfit) (λ r. SaysOf r b)
-      (λ same. from_said _ _ (places_say c p q h k same ∙ ap (λ v. truth_value (compared c (option_map item_of h.value) (option_map item_of v))) (sym k.on_row)))
-      (λ other. unless_same c p q b (readings.are_numbers p.dtype q.dtype))
+  place_says : (c : Comparison) (f : Field) (name : List ℕ) (o : Option Field) (h : Holds row (row ++ more) f.place) → find_field s name ≡ o
+      → SaysOf (with_place c f o) (compared c (option_map (item_of f.logical) h.value) (field_value row o))
+  place_says c f name None h is = λ e q. cc
+  place_says c f name (Some g) h is =
+      let k = field_holds name g is in
+      let b = compared c (option_map (item_of f.logical) h.value) (option_map (item_of g.logical) (cell_value (slice_get row g.place.index))) in
+      by_test (eq_ignore_nullability f.place.dtype g.place.dtype && are_same_cells f.logical g.logical) (said (comparing c f.place (column g.place))) (if readings.are_numbers f.place.dtype g.place.dtype then unread else Err Misfit) (λ r. SaysOf r b)
+      (λ same. from_said _ _ (places_say c f g h k same ∙ ap (λ v. truth_value (compared c (option_map (item_of f.logical) h.value) (option_map (item_of g.logical) v))) (sym k.on_row)))
+      (λ other. unless_same b (readings.are_numbers f.place.dtype g.place.dtype))
 
-  operand_says : (c : Comparison) (p : Place) (y : Operand) (h : Holds row (row ++ more) p)
-      → SaysOf (with_operand scope c p y) (compared c (option_map item_of h.value) (value_in scope row y))
-  operand_says c p (operand.Column name) h = place_says c p name (find_column scope name) h refl
-  operand_says c p y h = literal_says c p p.dtype y h h.typed
+  operand_says : (c : Comparison) (f : Field) (y : Operand) (h : Holds row (row ++ more) f.place)
+      → SaysOf (with_operand s c f y) (compared c (option_map (item_of f.logical) h.value) (value_in s row y))
+  operand_says c f (operand.Column name) h = place_says c f name (find_field s name) h refl
+  operand_says c f y h = literal_says c f f.place.dtype y h h.typed
 
-  from_place_says : (c : Comparison) (name : List ℕ) (o : Option Place) (y : Operand) → find_column scope name ≡ o
-      → SaysOf (from_place scope c o y) (compared c (option_map item_of (cell_at row o)) (value_in scope row y))
+  from_place_says : (c : Comparison) (name : List ℕ) (o : Option Field) (y : Operand) → find_field s name ≡ o
+      → SaysOf (from_place s c o y) (compared c (field_value row o) (value_in s row y))
   from_place_says c name None operand.Null is = null_says (compared c None None) refl
   from_place_says c name None y is = λ e q. cc
-  from_place_says c name (Some p) y is =
-      let h = column_holds scope row more name p is_row is in
-      λ e q. operand_says c p y h e q ∙ ap (λ v. truth_value (compared c (option_map item_of v) (value_in scope row y))) (sym h.on_row)
+  from_place_says c name (Some f) y is =
+      let h = field_holds name f is in
+      λ e q. operand_says c f y h e q ∙ ap (λ v. truth_value (compared c (option_map (item_of f.logical) v) (value_in s row y))) (sym h.on_row)
 
-  literal_first : (c : Comparison) (x y : Operand) → SaysOf (from_literal scope c x y) (compared c (value_in scope row x) (value_in scope row y))
+  literal_first : (c : Comparison) (x y : Operand) → SaysOf (from_literal s c x y) (compared c (value_in s row x) (value_in s row y))
   literal_first c x (operand.Column name) =
-      λ e q. from_place_says (flipped c) name (find_column scope name) x refl e q ∙ ap truth_value (flipped_compared c (value_in scope row x) (value_in scope row (operand.Column name)))
-  literal_first c x y = literals_say c (literal_of x) (literal_of y) (value_in scope row x) (value_in scope row y) (literal_is x) (literal_is y)
+      λ e q. from_place_says (flipped c) name (find_field s name) x refl e q ∙ ap truth_value (flipped_compared c (value_in s row x) (value_in s row (operand.Column name)))
+  literal_first c x y = literals_say c (literal_of x) (literal_of y) (value_in s row x) (value_in s row y) (literal_is x) (literal_is y)
 
-  compare_says : (c : Comparison) (x y : Operand) → SaysOf (compare scope c x y) (compared c (value_in scope row x) (value_in scope row y))
-  compare_says c (operand.Column name) y = from_place_says c name (find_column scope name) y refl
-  compare_says c x y = literal_first c x y
+  compare_typed_says : (c : Comparison) (x y : Operand) → SaysOf (compare_typed s c x y) (compared c (value_in s row x) (value_in s row y))
+  compare_typed_says c (operand.Column name) y = from_place_says c name (find_field s name) y refl
+  compare_typed_says c x y = literal_first c x y
+
+  compare_says : (c : Comparison) (x y : Operand) → SaysOf (compare s c x y) (compared_on s row c x y)
+  compare_says c x y = compare_typed_says c (beside s y x) (beside s x y)
 
   -- ---- other tests
 
-  both_say : (s t : Tree Place) (a b : Option Bool) → Means s a → Means t b → Means (binary operator.And s t) (both a b)
-  both_say s t a b h k = ap (λ v. truth_value (both (meanings.truth v) (meanings.truth (meaning t (row ++ more) n)))) h
+  both_say : (x y : Tree Place) (a b : Option Bool) → Means x a → Means y b → Means (binary operator.And x y) (both a b)
+  both_say x y a b h k = ap (λ v. truth_value (both (meanings.truth v) (meanings.truth (meaning y (row ++ more) n)))) h
       ∙ ap (λ v. truth_value (both (meanings.truth (truth_value a)) (meanings.truth v))) k
       ∙ ap (λ v. truth_value (both v (meanings.truth (truth_value b)))) (truth-value a)
       ∙ ap (λ v. truth_value (both a v)) (truth-value b)
 
-  either_say : (s t : Tree Place) (a b : Option Bool) → Means s a → Means t b → Means (binary operator.Or s t) (either a b)
-  either_say s t a b h k = ap (λ v. truth_value (either (meanings.truth v) (meanings.truth (meaning t (row ++ more) n)))) h
+  either_say : (x y : Tree Place) (a b : Option Bool) → Means x a → Means y b → Means (binary operator.Or x y) (either a b)
+  either_say x y a b h k = ap (λ v. truth_value (either (meanings.truth v) (meanings.truth (meaning y (row ++ more) n)))) h
       ∙ ap (λ v. truth_value (either (meanings.truth (truth_value a)) (meanings.truth v))) k
       ∙ ap (λ v. truth_value (either v (meanings.truth (truth_value b)))) (truth-value a)
       ∙ ap (λ v. truth_value (either a v)) (truth-value b)
 
-  and_says : (r s : Reading) (a b : Option Bool) → SaysOf r a → SaysOf s b → SaysOf (joined_by operator.And r s) (both a b)
+  and_says : (r q : Reading) (a b : Option Bool) → SaysOf r a → SaysOf q b → SaysOf (joined_by operator.And r q) (both a b)
   and_says (Ok (Some x)) (Ok (Some y)) a b h k = from_said _ _ (both_say x y a b (h x refl) (k y refl))
   and_says (Ok (Some x)) (Ok None) a b h k = λ e q. cc
-  and_says (Ok None) (Ok s) a b h k = λ e q. cc
+  and_says (Ok None) (Ok q) a b h k = λ e q. cc
   and_says (Ok r) (Err f) a b h k = λ e q. cc
-  and_says (Err f) s a b h k = λ e q. cc
+  and_says (Err f) q a b h k = λ e q. cc
 
-  or_says : (r s : Reading) (a b : Option Bool) → SaysOf r a → SaysOf s b → SaysOf (joined_by operator.Or r s) (either a b)
+  or_says : (r q : Reading) (a b : Option Bool) → SaysOf r a → SaysOf q b → SaysOf (joined_by operator.Or r q) (either a b)
   or_says (Ok (Some x)) (Ok (Some y)) a b h k = from_said _ _ (either_say x y a b (h x refl) (k y refl))
   or_says (Ok (Some x)) (Ok None) a b h k = λ e q. cc
-  or_says (Ok None) (Ok s) a b h k = λ e q. cc
+  or_says (Ok None) (Ok q) a b h k = λ e q. cc
   or_says (Ok r) (Err f) a b h k = λ e q. cc
-  or_says (Err f) s a b h k = λ e q. cc
+  or_says (Err f) q a b h k = λ e q. cc
 
   -- each expression means a truth, and one of these is true as the last argument says
   abbrev AnyOf : List (Tree Place) → Option Bool → Type 0
@@ -329,10 +378,10 @@ module _ (scope : List Named) (row more : List Constant) (n : ℕ) (is_row : IsR
   any_paired : (es : List (Tree Place)) (b : Option Bool) → AnyOf es b → AnyOf (paired es) b
   any_paired [] b h = h
   any_paired (e ∷ []) b h = h
-  any_paired (s ∷ t ∷ es) b h = (
+  any_paired (y ∷ t ∷ es) b h = (
     either h.0 h.3.0,
     h.3.1,
-    either_say s t h.0 h.3.0 h.2 h.3.2,
+    either_say y t h.0 h.3.0 h.2 h.3.2,
     any_paired es h.3.1 h.3.3,
     either_assoc h.0 h.3.0 h.3.1 ∙ ap (either h.0) h.3.4 ∙ h.4,
   )
@@ -346,7 +395,7 @@ module _ (scope : List Named) (row more : List Constant) (n : ℕ) (is_row : IsR
   only_means (t ∷ []) e b few is h =
       let same : either h.0 (Some false) ≡ b = ap (either h.0) h.3 ∙ h.4 in
       subst (λ x. Means x b) (same_some t e is) (h.2 ∙ ap truth_value (sym (either-false h.0) ∙ same))
-  only_means (s ∷ t ∷ es) e b few is h = absurd (omega arith)
+  only_means (y ∷ t ∷ es) e b few is h = absurd (omega arith)
 
   abbrev MembersSay : Members → Option Bool → Type 0
   MembersSay m b = (es : List (Tree Place)) → m ≡ all_said es → AnyOf es b
@@ -359,14 +408,14 @@ module _ (scope : List Named) (row more : List Constant) (n : ℕ) (is_row : IsR
   with_member_says (Err f) r a b h k = λ ts q. cc
 
   members_say : (x : Operand) (m : Members) (a : Option Bool) (ys : List Operand) → MembersSay m a
-      → MembersSay (members_from scope x m ys) (either a (among (value_in scope row x) (values_in scope row ys)))
+      → MembersSay (members_from s x m ys) (either a (among_on s row x ys))
   members_say x m a [] h = λ es q. any_along es a (either a (Some false)) (sym (either-false a)) (h es q)
   members_say x m a (y ∷ ys) h =
-      let here = compared comparison.Eq (value_in scope row x) (value_in scope row y) in
-      let rest = among (value_in scope row x) (values_in scope row ys) in
-      let next = with_member m (compare scope comparison.Eq x y) in
+      let here = compared_on s row comparison.Eq x y in
+      let rest = among_on s row x ys in
+      let next = with_member m (compare s comparison.Eq x y) in
       λ es q. any_along es _ _ (either_assoc a here rest)
-      (members_say x next (either a here) ys (with_member_says m (compare scope comparison.Eq x y) a here h (compare_says comparison.Eq x y)) es q)
+      (members_say x next (either a here) ys (with_member_says m (compare s comparison.Eq x y) a here h (compare_says comparison.Eq x y)) es q)
 
   any_says : (m : Members) (b : Option Bool) → MembersSay m b → SaysOf (any_of m) b
   any_says (Ok (Some es)) b h = λ e q.
@@ -377,120 +426,124 @@ module _ (scope : List Named) (row more : List Constant) (n : ℕ) (is_row : IsR
   no_members : MembersSay (Ok (Some [])) (Some false)
   no_members es q = subst (λ x. AnyOf x (Some false)) (same_list [] es q) refl
 
-  member_says : (x : Operand) (ys : List Operand) → SaysOf (member scope x ys) (among (value_in scope row x) (values_in scope row ys))
-  member_says x ys = any_says (members_from scope x (Ok (Some [])) ys) (among (value_in scope row x) (values_in scope row ys))
+  member_says : (x : Operand) (ys : List Operand) → SaysOf (member s x ys) (among_on s row x ys)
+  member_says x ys = any_says (members_from s x (Ok (Some [])) ys) (among_on s row x ys)
       (members_say x (Ok (Some [])) (Some false) ys no_members)
 
-  as_truth_says : (name : List ℕ) (o : Option Place) → find_column scope name ≡ o → SaysOf (as_truth o) (truth_of (option_map item_of (cell_at row o)))
+  as_truth_says : (name : List ℕ) (o : Option Field) → find_field s name ≡ o → SaysOf (as_truth o) (truth_of (field_value row o))
   as_truth_says name None is = λ e q. cc
-  as_truth_says name (Some p) is =
-      let h = column_holds scope row more name p is_row is in
-      let b = truth_of (option_map item_of (cell_value (slice_get row p.index))) in
-      by_test (is_bool p.dtype) (said (column p)) (Err Misfit) (λ r. SaysOf r b)
-      (λ bool. from_said _ _ (h.on_whole ∙ bool_value h.value p.dtype bool h.typed ∙ ap (λ v. truth_value (truth_of (option_map item_of v))) (sym h.on_row)))
+  as_truth_says name (Some f) is =
+      let h = field_holds name f is in
+      let b = truth_of (option_map (item_of f.logical) (cell_value (slice_get row f.place.index))) in
+      by_test (is_bool f.place.dtype) (said (column f.place)) (Err Misfit) (λ r. SaysOf r b)
+      (λ bool. from_said _ _ (h.on_whole ∙ bool_value f.logical h.value f.place.dtype bool h.typed ∙ ap (λ v. truth_value (truth_of (option_map (item_of f.logical) v))) (sym h.on_row)))
       (λ other e q. cc)
 
-  truth_says : (x : Operand) → SaysOf (readings.truth scope x) (truth_of (value_in scope row x))
-  truth_says (operand.Column name) = as_truth_says name (find_column scope name) refl
+  truth_says : (x : Operand) → SaysOf (readings.truth s x) (truth_of (value_in s row x))
+  truth_says (operand.Column name) = as_truth_says name (find_field s name) refl
   truth_says operand.Null = from_said (truth_literal None) None refl
   truth_says (operand.Truth b) = from_said (truth_literal (Some b)) (Some b) refl
   truth_says operand.Other = λ e q. cc
   truth_says x = λ e q. cc
 
-  null_at_says : (name : List ℕ) (o : Option Place) → find_column scope name ≡ o → SaysOf (as_null_test o) (Some (is_none (option_map item_of (cell_at row o))))
+  null_at_says : (name : List ℕ) (o : Option Field) → find_field s name ≡ o → SaysOf (as_null_test o) (Some (is_none (field_value row o)))
   null_at_says name None is = λ e q. cc
-  null_at_says name (Some p) is =
-      let h = column_holds scope row more name p is_row is in
-      from_said (is_null (column p)) (Some (is_none (option_map item_of (cell_value (slice_get row p.index))))) (ap (λ v. Some (value.Bool v)) (ap is_none (h.on_whole ∙ sym h.on_row) ∙ none_item (cell_value (slice_get row p.index))))
+  null_at_says name (Some f) is =
+      let h = field_holds name f is in
+      let v = cell_value (slice_get row f.place.index) in
+      from_said (is_null (column f.place)) (Some (is_none (option_map (item_of f.logical) v))) (ap (λ b. Some (value.Bool b)) (ap is_none (h.on_whole ∙ sym h.on_row) ∙ none_item f.logical v))
 
-  null_test_says : (x : Operand) → SaysOf (null_test scope x) (Some (is_none (value_in scope row x)))
-  null_test_says (operand.Column name) = null_at_says name (find_column scope name) refl
-  null_test_says x = literal_null_says (literal_of x) (value_in scope row x) (literal_is x)
+  null_test_says : (x : Operand) → SaysOf (null_test s x) (Some (is_none (value_in s row x)))
+  null_test_says (operand.Column name) = null_at_says name (find_field s name) refl
+  null_test_says x = literal_null_says (literal_of x) (value_in s row x) (literal_is x)
 
   -- ---- IS DISTINCT FROM
 
-  is_null_means : (p : Place) (h : Holds row (row ++ more) p) → Means (is_null (column p)) (Some (is_none (option_map item_of h.value)))
-  is_null_means p h = ap (λ v. Some (value.Bool (is_none v))) h.on_whole ∙ ap (λ b. Some (value.Bool b)) (none_item h.value)
+  is_null_means : (f : Field) (h : Holds row (row ++ more) f.place) → Means (is_null (column f.place)) (Some (is_none (option_map (item_of f.logical) h.value)))
+  is_null_means f h = ap (λ v. Some (value.Bool (is_none v))) h.on_whole ∙ ap (λ b. Some (value.Bool b)) (none_item f.logical h.value)
 
-  is_not_null_means : (p : Place) (h : Holds row (row ++ more) p) → Means (is_not_null (column p)) (Some (not_b (is_none (option_map item_of h.value))))
-  is_not_null_means p h = ap (λ v. Some (value.Bool (not_b (is_none v)))) h.on_whole ∙ ap (λ b. Some (value.Bool (not_b b))) (none_item h.value)
+  is_not_null_means : (f : Field) (h : Holds row (row ++ more) f.place) → Means (is_not_null (column f.place)) (Some (not_b (is_none (option_map (item_of f.logical) h.value))))
+  is_not_null_means f h = ap (λ v. Some (value.Bool (not_b (is_none v)))) h.on_whole ∙ ap (λ b. Some (value.Bool (not_b b))) (none_item f.logical h.value)
 
-  differs : (p : Place) (y : Operand) (b : Item) (h : Holds row (row ++ more) p) → value_in scope row y ≡ Some b
-      → SaysOf (joined_by operator.Or (with_literal comparison.NotEq p p.dtype y) (said (is_null (column p)))) (distinct (option_map item_of h.value) (value_in scope row y))
-  differs p y b h is =
-      let x = option_map item_of h.value in
-      let w = value_in scope row y in
-      along (joined_by operator.Or (with_literal comparison.NotEq p p.dtype y) (said (is_null (column p)))) (either (compared comparison.NotEq x w) (Some (is_none x))) (distinct x w)
+  differs : (f : Field) (y : Operand) (b : Item) (h : Holds row (row ++ more) f.place) → value_in s row y ≡ Some b
+      → SaysOf (joined_by operator.Or (with_literal comparison.NotEq f f.place.dtype y) (said (is_null (column f.place)))) (distinct (option_map (item_of f.logical) h.value) (value_in s row y))
+  differs f y b h is =
+      let x = option_map (item_of f.logical) h.value in
+      let w = value_in s row y in
+      along (joined_by operator.Or (with_literal comparison.NotEq f f.place.dtype y) (said (is_null (column f.place)))) (either (compared comparison.NotEq x w) (Some (is_none x))) (distinct x w)
       (ap (λ v. either (compared comparison.NotEq x v) (Some (is_none x))) is ∙ differs_or_null x b ∙ ap (distinct x) (sym is))
-      (or_says (with_literal comparison.NotEq p p.dtype y) (said (is_null (column p))) (compared comparison.NotEq x w) (Some (is_none x))
-      (literal_says comparison.NotEq p p.dtype y h h.typed) (from_said (is_null (column p)) (Some (is_none x)) (is_null_means p h)))
+      (or_says (with_literal comparison.NotEq f f.place.dtype y) (said (is_null (column f.place))) (compared comparison.NotEq x w) (Some (is_none x))
+      (literal_says comparison.NotEq f f.place.dtype y h h.typed) (from_said (is_null (column f.place)) (Some (is_none x)) (is_null_means f h)))
 
   other_unread : (r : Reading) (b : Option Bool) → SaysOf (joined_by operator.Or unread r) b
   other_unread (Ok a) b = λ e q. cc
   other_unread (Err f) b = λ e q. cc
 
-  distinct_from_says : (p : Place) (y : Operand) (h : Holds row (row ++ more) p) → SaysOf (distinct_from p y) (distinct (option_map item_of h.value) (value_in scope row y))
-  distinct_from_says p (operand.Column name) h = λ e q. cc
-  distinct_from_says p operand.Null h =
-      along (said (is_not_null (column p))) (Some (not_b (is_none (option_map item_of h.value)))) (distinct (option_map item_of h.value) None) (sym (distinct-none (option_map item_of h.value)))
-      (from_said (is_not_null (column p)) (Some (not_b (is_none (option_map item_of h.value)))) (is_not_null_means p h))
-  distinct_from_says p (operand.Truth b) h = differs p (operand.Truth b) (truth b) h refl
-  distinct_from_says p (operand.Integer z) h = differs p (operand.Integer z) (number z) h refl
-  distinct_from_says p (operand.Fraction z) h = differs p (operand.Fraction z) (fraction z) h refl
-  distinct_from_says p (operand.Text bs) h = differs p (operand.Text bs) (text bs) h refl
-  distinct_from_says p (operand.Binary bs) h = differs p (operand.Binary bs) (binary_item bs) h refl
-  distinct_from_says p operand.Other h = other_unread (said (is_null (column p))) (distinct (option_map item_of h.value) None)
+  distinct_from_says : (f : Field) (y : Operand) (h : Holds row (row ++ more) f.place) → SaysOf (distinct_from f y) (distinct (option_map (item_of f.logical) h.value) (value_in s row y))
+  distinct_from_says f (operand.Column name) h = λ e q. cc
+  distinct_from_says f operand.Null h =
+      let x = option_map (item_of f.logical) h.value in
+      along (said (is_not_null (column f.place))) (Some (not_b (is_none x))) (distinct x None) (sym (distinct-none x))
+      (from_said (is_not_null (column f.place)) (Some (not_b (is_none x))) (is_not_null_means f h))
+  distinct_from_says f (operand.Truth b) h = differs f (operand.Truth b) (truth b) h refl
+  distinct_from_says f (operand.Exact x) h = differs f (operand.Exact x) (exact_item x) h refl
+  distinct_from_says f (operand.Text bs) h = differs f (operand.Text bs) (text bs) h refl
+  distinct_from_says f (operand.Binary bs) h = differs f (operand.Binary bs) (binary_item bs) h refl
+  distinct_from_says f operand.Other h = other_unread (said (is_null (column f.place))) (distinct (option_map (item_of f.logical) h.value) None)
 
-  distinct_at_says : (name : List ℕ) (o : Option Place) (y : Operand) → find_column scope name ≡ o
-      → SaysOf (distinct_at o y) (distinct (option_map item_of (cell_at row o)) (value_in scope row y))
+  distinct_at_says : (name : List ℕ) (o : Option Field) (y : Operand) → find_field s name ≡ o
+      → SaysOf (distinct_at o y) (distinct (field_value row o) (value_in s row y))
   distinct_at_says name None y is = λ e q. cc
-  distinct_at_says name (Some p) y is =
-      let h = column_holds scope row more name p is_row is in
-      λ e q. distinct_from_says p y h e q ∙ ap (λ v. truth_value (distinct (option_map item_of v) (value_in scope row y))) (sym h.on_row)
+  distinct_at_says name (Some f) y is =
+      let h = field_holds name f is in
+      λ e q. distinct_from_says f y h e q ∙ ap (λ v. truth_value (distinct (option_map (item_of f.logical) v) (value_in s row y))) (sym h.on_row)
 
-  distinct_from_literal_says : (x y : Operand) → SaysOf (distinct_from_literal scope x y) (distinct (value_in scope row x) (value_in scope row y))
+  distinct_from_literal_says : (x y : Operand) → SaysOf (distinct_from_literal s x y) (distinct (value_in s row x) (value_in s row y))
   distinct_from_literal_says x (operand.Column name) =
-      λ e q. distinct_at_says name (find_column scope name) x refl e q ∙ ap truth_value (distinct_turned (value_in scope row x) (value_in scope row (operand.Column name)))
-  distinct_from_literal_says x y = distinct_literals_say (literal_of x) (literal_of y) (value_in scope row x) (value_in scope row y) (literal_is x) (literal_is y)
+      λ e q. distinct_at_says name (find_field s name) x refl e q ∙ ap truth_value (distinct_turned (value_in s row x) (value_in s row (operand.Column name)))
+  distinct_from_literal_says x y = distinct_literals_say (literal_of x) (literal_of y) (value_in s row x) (value_in s row y) (literal_is x) (literal_is y)
 
-  distinct_says : (x y : Operand) → SaysOf (distinct_test scope x y) (distinct (value_in scope row x) (value_in scope row y))
-  distinct_says (operand.Column name) y = distinct_at_says name (find_column scope name) y refl
-  distinct_says x y = distinct_from_literal_says x y
+  distinct_typed_says : (x y : Operand) → SaysOf (distinct_typed s x y) (distinct (value_in s row x) (value_in s row y))
+  distinct_typed_says (operand.Column name) y = distinct_at_says name (find_field s name) y refl
+  distinct_typed_says x y = distinct_from_literal_says x y
+
+  distinct_says : (x y : Operand) → SaysOf (distinct_test s x y) (distinct (value_in s row (beside s y x)) (value_in s row (beside s x y)))
+  distinct_says x y = distinct_typed_says (beside s y x) (beside s x y)
 
   -- ---- BETWEEN and LIKE
 
-  between_says : (x l u : Operand) → SaysOf (between_test scope x l u) (within (value_in scope row x) (value_in scope row l) (value_in scope row u))
+  between_says : (x l u : Operand) → SaysOf (between_test s x l u) (within_on s row x l u)
   between_says x l u =
-      and_says (compare scope comparison.Gte x l) (compare scope comparison.Lte x u) (compared comparison.Gte (value_in scope row x) (value_in scope row l)) (compared comparison.Lte (value_in scope row x) (value_in scope row u))
+      and_says (compare s comparison.Gte x l) (compare s comparison.Lte x u) (compared_on s row comparison.Gte x l) (compared_on s row comparison.Lte x u)
       (compare_says comparison.Gte x l) (compare_says comparison.Lte x u)
 
-  like_says : (name bs : List ℕ) (o : Option Place) → find_column scope name ≡ o → SaysOf (like_place o bs) (liked (option_map item_of (cell_at row o)) (Some (text bs)))
+  like_says : (name bs : List ℕ) (o : Option Field) → find_field s name ≡ o → SaysOf (like_place o bs) (liked (field_value row o) (Some (text bs)))
   like_says name bs None is = λ e q. cc
-  like_says name bs (Some p) is =
-      let h = column_holds scope row more name p is_row is in
-      let b = liked (option_map item_of (cell_value (slice_get row p.index))) (Some (text bs)) in
-      by_test (is_utf8 p.dtype) (said (like plain (column p) (constant (dtype.Utf8 NonNullable) (value.Utf8 bs)))) (Err Misfit) (λ r. SaysOf r b)
+  like_says name bs (Some f) is =
+      let h = field_holds name f is in
+      let b = liked (option_map (item_of f.logical) (cell_value (slice_get row f.place.index))) (Some (text bs)) in
+      by_test (is_utf8 f.place.dtype) (said (like plain (column f.place) (constant (dtype.Utf8 NonNullable) (value.Utf8 bs)))) (Err Misfit) (λ r. SaysOf r b)
       (λ utf8. from_said _ _ (ap (λ v. truth_value (meanings.liked plain v (Some (value.Utf8 bs)))) h.on_whole
-      ∙ ap truth_value (text_liked h.value p.dtype bs utf8 h.typed)
-      ∙ ap (λ v. truth_value (liked (option_map item_of v) (Some (text bs)))) (sym h.on_row)))
+      ∙ ap truth_value (text_liked f.logical h.value f.place.dtype bs utf8 h.typed)
+      ∙ ap (λ v. truth_value (liked (option_map (item_of f.logical) v) (Some (text bs)))) (sym h.on_row)))
       (λ other e q. cc)
 
-  pattern_says : (x p : Operand) → SaysOf (pattern_test scope x p) (liked (value_in scope row x) (value_in scope row p))
-  pattern_says (operand.Column name) (operand.Text bs) = like_says name bs (find_column scope name) refl
-  pattern_says x operand.Null = null_says (liked (value_in scope row x) None) (liked-none (value_in scope row x))
+  pattern_says : (x p : Operand) → SaysOf (pattern_test s x p) (liked (value_in s row x) (value_in s row p))
+  pattern_says (operand.Column name) (operand.Text bs) = like_says name bs (find_field s name) refl
+  pattern_says x operand.Null = null_says (liked (value_in s row x) None) (liked-none (value_in s row x))
   pattern_says x p = λ e q. cc
 
-  like_test_says : (x p : Operand) → SaysOf (pattern_test scope x p) (liked (value_in scope row x) (pattern_of escape.Backslash (value_in scope row p)))
-  like_test_says x p = along (pattern_test scope x p) _ _ (ap (liked (value_in scope row x)) (sym (backslash (value_in scope row p)))) (pattern_says x p)
+  like_test_says : (x p : Operand) → SaysOf (pattern_test s x p) (liked (value_in s row x) (pattern_of escape.Backslash (value_in s row p)))
+  like_test_says x p = along (pattern_test s x p) _ _ (ap (liked (value_in s row x)) (sym (backslash (value_in s row p)))) (pattern_says x p)
 
-  test_says : (t : Test) → SaysOf (reading scope t) (test_truth scope row t)
+  test_says : (t : Test) → SaysOf (reading s t) (test_truth s row t)
   test_says (test.Truth x) = truth_says x
   test_says (test.Compare c x y) = compare_says c x y
   test_says (test.Distinct x y) = distinct_says x y
   test_says (test.IsNull x) = null_test_says x
   test_says (test.Between x l u) = between_says x l u
   test_says (test.BetweenSymmetric x l u) =
-      or_says (between_test scope x l u) (between_test scope x u l) (within (value_in scope row x) (value_in scope row l) (value_in scope row u)) (within (value_in scope row x) (value_in scope row u) (value_in scope row l))
+      or_says (between_test s x l u) (between_test s x u l) (within_on s row x l u) (within_on s row x u l)
       (between_says x l u) (between_says x u l)
   test_says (test.In x ys) = member_says x ys
   test_says (test.Like x p escape.Backslash) = like_test_says x p
@@ -546,23 +599,23 @@ module _ (scope : List Named) (row more : List Constant) (n : ℕ) (is_row : IsR
   is_false_says false e a h =
       both_say (not e) (is_not_null e) (opposite a) (Some (not_b (is_none a))) (not_says e a h) (known_means e a h) ∙ ap truth_value (false-known a)
 
-  condition_says : (f : Leaf → Option Bool) (k : ℕ) (c : Condition) → Told (row ++ more) k f (opaques scope c) → Means (lowered scope k c) (truth_on scope row f c)
-  condition_says f k (Leaf' l) told = leaf_says k f l (reading scope l.test) (test_truth scope row l.test) (test_says l.test) told
-  condition_says f k (Not' p x) told = not_says (lowered scope k x) (truth_on scope row f x) (condition_says f k x told)
+  condition_says : (f : Leaf → Option Bool) (k : ℕ) (c : Condition) → Told (row ++ more) k f (opaques s c) → Means (lowered s k c) (truth_on s row f c)
+  condition_says f k (Leaf' l) told = leaf_says k f l (reading s l.test) (test_truth s row l.test) (test_says l.test) told
+  condition_says f k (Not' p x) told = not_says (lowered s k x) (truth_on s row f x) (condition_says f k x told)
   condition_says f k (And' p x q y) told =
-      both_say (lowered scope k x) (lowered scope (k + length (opaques scope x)) y) (truth_on scope row f x) (truth_on scope row f y) (condition_says f k x (told-left (row ++ more) k f (opaques scope x) (opaques scope y) told))
-      (condition_says f (k + length (opaques scope x)) y (told-right (row ++ more) k f (opaques scope x) (opaques scope y) told))
+      both_say (lowered s k x) (lowered s (k + length (opaques s x)) y) (truth_on s row f x) (truth_on s row f y) (condition_says f k x (told-left (row ++ more) k f (opaques s x) (opaques s y) told))
+      (condition_says f (k + length (opaques s x)) y (told-right (row ++ more) k f (opaques s x) (opaques s y) told))
   condition_says f k (Or' p x q y) told =
-      either_say (lowered scope k x) (lowered scope (k + length (opaques scope x)) y) (truth_on scope row f x) (truth_on scope row f y) (condition_says f k x (told-left (row ++ more) k f (opaques scope x) (opaques scope y) told))
-      (condition_says f (k + length (opaques scope x)) y (told-right (row ++ more) k f (opaques scope x) (opaques scope y) told))
-  condition_says f k (IsNull' p x) told = ap (λ v. Some (value.Bool (is_none v))) (condition_says f k x told) ∙ ap (λ b. Some (value.Bool b)) (none-value (truth_on scope row f x))
-  condition_says f k (IsTrue' p x) told = is_true_says (has_truth_test x) (lowered scope k x) (truth_on scope row f x) (condition_says f k x told)
-  condition_says f k (IsFalse' p x) told = is_false_says (has_truth_test x) (lowered scope k x) (truth_on scope row f x) (condition_says f k x told)
+      either_say (lowered s k x) (lowered s (k + length (opaques s x)) y) (truth_on s row f x) (truth_on s row f y) (condition_says f k x (told-left (row ++ more) k f (opaques s x) (opaques s y) told))
+      (condition_says f (k + length (opaques s x)) y (told-right (row ++ more) k f (opaques s x) (opaques s y) told))
+  condition_says f k (IsNull' p x) told = ap (λ v. Some (value.Bool (is_none v))) (condition_says f k x told) ∙ ap (λ b. Some (value.Bool b)) (none-value (truth_on s row f x))
+  condition_says f k (IsTrue' p x) told = is_true_says (has_truth_test x) (lowered s k x) (truth_on s row f x) (condition_says f k x told)
+  condition_says f k (IsFalse' p x) told = is_false_says (has_truth_test x) (lowered s k x) (truth_on s row f x) (condition_says f k x told)
 
 -- on each row, whatever is told of the leaves that aren't read
-pub lowered_says : (scope : List Named) (c : Condition) (k : ℕ) → k ≡ length scope → Says scope c (lowered scope k c)
-lowered_says scope c k long row f n is_row =
-    let ls = opaques scope c in
-    let same : length row ≡ k = sym (same_length scope row is_row) ∙ sym long in
+pub lowered_says : (s : SchemaData) (c : Condition) (k : ℕ) → k ≡ length s.scope → Says s c (lowered s k c)
+lowered_says s c k long row f n is_row =
+    let ls = opaques s c in
+    let same : length row ≡ k = sym (same_length s.scope row is_row) ∙ sym long in
     let P : ℕ → Type 0 = λ j. Told (with_told row f ls) j f ls in
-    condition_says scope row _ n is_row f k c (subst P same (told row f ls))
+    condition_says s row _ n is_row f k c (subst P same (told row f ls))

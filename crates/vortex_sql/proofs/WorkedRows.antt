@@ -1,6 +1,15 @@
 -- The worked rows, by computing.
-use Rattle.std.proofs.Common.{refl}
-use Rattle.vortex_sql.specs.Worked.{ReadingExamples, OtherReadings, OrderExamples, TruthExamples, PatternExamples}
+use Rattle.std.proofs.Common.{ℕ, [], ap, refl}
+use Rattle.std.specs.Prelude.{Ok, Option, Some, pos}
+use Rattle.vortex_expr.specs.declared.scalar_fn.Operator.TheVariants as operator
+use Rattle.vortex_logical.specs.Meaning.{Fraction}
+use Rattle.vortex_logical.specs.declared.comparison.Comparison.{Comparison}
+use Rattle.vortex_logical.specs.declared.comparison.Comparison.TheVariants as comparison
+use Rattle.vortex_logical.specs.declared.logical_type.ExactKind.TheVariants.{Clock, Instant, TimeOfDay}
+use Rattle.vortex_sql.specs.Readings.{Reading, any_of, compare, compare_typed, distinct_typed, joined_by, with_member}
+use Rattle.vortex_sql.specs.Typing.{scaled, typed_text}
+use Rattle.vortex_sql.specs.declared.syntax.tree.Operand.{Operand}
+use Rattle.vortex_sql.specs.Worked.{clock, d, dated, m, t, z, ReadingExamples, OtherReadings, OrderExamples, TruthExamples, TextReadings, TypedReadings, TypedTruths, PatternExamples}
 
 pub readings : ReadingExamples
 readings = record {
@@ -100,9 +109,15 @@ orders = record {
   number_below_fraction = refl;
   number_above_fraction = refl;
   below_zero = refl;
-  fraction_below_number = refl;
-  fraction_above_number = refl;
   fractions = refl;
+  same_fractions = refl;
+  clocks = refl;
+  instants = refl;
+  times = refl;
+  clock_and_instant = refl;
+  instant_and_clock = refl;
+  clock_and_number = refl;
+  number_and_time = refl;
   texts = refl;
   binaries = refl;
   kinds = refl;
@@ -170,4 +185,81 @@ patterns = record {
   backslash_plain = refl;
   backslash_marked = refl;
   none_marks = refl;
+}
+
+pub typed_readings : TypedReadings
+typed_readings = record {
+  day = refl;
+  within_day = refl;
+  day_first = refl;
+  past_days = refl;
+  micros = refl;
+  finer = refl;
+  millis = refl;
+  clock_of_instant = refl;
+  instant_of_clock = refl;
+  time = refl;
+  raw_number = refl;
+  raw_instant = refl;
+  number_as_clock = refl;
+  two_clocks = refl;
+  fractions = refl;
+  fractions_behind = refl;
+  two_types = refl;
+  same_types = refl;
+  raw_column = refl;
+  null_day = refl;
+  longest = refl;
+  too_long = refl;
+}
+
+pub typed_truths : TypedTruths
+typed_truths = record {
+  at_day = refl;
+  before_noon = refl;
+  after_noon = refl;
+  number_beside_day = refl;
+  same_cells = refl;
+  same_zones = refl;
+  same_days = refl;
+  days_and_seconds = refl;
+  text_beside_text = refl;
+  text_beside_number = refl;
+  number_beside_column = refl;
+  text_beside_decimal = λ x. refl;
+}
+
+-- a comparison with a text, by what the text is read as
+abbrev by_clock : Comparison → Operand → ℕ → Option Fraction → Reading
+by_clock c x scale o = compare_typed dated c x (typed_text (scaled Clock scale o))
+
+abbrev by_first : Comparison → Option Fraction → Reading
+by_first c o = compare_typed dated c (typed_text (scaled Clock 0 o)) d
+
+abbrev by_member : Option Fraction → Reading
+by_member o = any_of (with_member (Ok (Some [])) (by_clock comparison.Eq d 0 o))
+
+abbrev by_between : Option Fraction → Reading
+by_between o = joined_by operator.And (by_clock comparison.Gte d 0 o) (compare dated comparison.Lte d (clock (pos 172_800) 0))
+
+abbrev by_distinct : Option Fraction → Reading
+by_distinct o = distinct_typed dated (typed_text (scaled Clock 0 o)) d
+
+abbrev by_instant : Option Fraction → Reading
+by_instant o = compare_typed dated comparison.Gte z (typed_text (scaled Instant 9 o))
+
+abbrev by_time : Option Fraction → Reading
+by_time o = compare_typed dated comparison.Gte m (typed_text (scaled TimeOfDay 9 o))
+
+pub text_readings : TextReadings
+text_readings = record {
+  day = λ h. ap (by_clock comparison.Gte d 0) h;
+  day_behind = λ h. ap (by_first comparison.Gte) h;
+  no_day = λ h. ap (by_clock comparison.Gte d 0) h;
+  days = λ h. ap by_between h;
+  in_days = λ h. ap by_member h;
+  distinct = λ h. ap by_distinct h;
+  timestamp = λ h. ap (by_clock comparison.Gte t 9) h;
+  instant = λ h. ap by_instant h;
+  time = λ h. ap by_time h;
 }

@@ -5,5 +5,7 @@ pub mod Parsing
 pub mod Pruning
 pub mod Readings
 pub mod Refusals
+pub mod Schemas
 pub mod Sql
+pub mod Typing
 pub mod Worked

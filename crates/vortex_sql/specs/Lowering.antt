@@ -1,4 +1,4 @@
--- How a condition of SQL is said by an expression over a scope, and what it means if each leaf that isn't read has a truth of its own.
+-- How a condition of SQL is said by an expression over a schemachema, and what it means if each leaf that isn't read has a truth of its own.
 use Rattle.std.specs.Prelude.{◌≡◌, ℕ, ◌+◌, ◌++◌, Bool, true, false, ◌||◌, not as not_b, Option, Some, None, List, [], ◌∷◌, Result, Ok, Err, IsTrue, is_none, length, map}
 use lib.Pointwise.{pointwise}
 use Rattle.vortex_base.specs.declared.dtype.DType.{DType}
@@ -12,6 +12,7 @@ use Rattle.vortex_expr.specs.Trees.Tree.{Tree, Place, column, binary, is_null, i
 use Rattle.vortex_sql.specs.declared.syntax.tree.Leaf.{Leaf}
 use Rattle.vortex_sql.specs.declared.syntax.tree.Condition.{Condition}
 use Rattle.vortex_sql.specs.declared.syntax.tree.Condition.TheVariants.{Leaf as Leaf', Not', And', Or', IsNull', IsTrue', IsFalse'}
+use Rattle.vortex_sql.specs.Schemas.{SchemaData}
 use Rattle.vortex_sql.specs.Sql.{test_truth}
 use Rattle.vortex_sql.specs.Readings.{Reading, reading, bool_or_null, truth_literal}
 
@@ -26,14 +27,14 @@ opaque_if (Ok (Some t)) l = []
 opaque_if (Ok None) l = l ∷ []
 opaque_if (Err e) l = l ∷ []
 
-abbrev pub opaques : List Named → Condition → List Leaf
-opaques scope (Leaf' l) = opaque_if (reading scope l.test) l
-opaques scope (Not' p x) = opaques scope x
-opaques scope (And' p x q y) = opaques scope x ++ opaques scope y
-opaques scope (Or' p x q y) = opaques scope x ++ opaques scope y
-opaques scope (IsNull' p x) = opaques scope x
-opaques scope (IsTrue' p x) = opaques scope x
-opaques scope (IsFalse' p x) = opaques scope x
+abbrev pub opaques : SchemaData → Condition → List Leaf
+opaques s (Leaf' l) = opaque_if (reading s l.test) l
+opaques s (Not' p x) = opaques s x
+opaques s (And' p x q y) = opaques s x ++ opaques s y
+opaques s (Or' p x q y) = opaques s x ++ opaques s y
+opaques s (IsNull' p x) = opaques s x
+opaques s (IsTrue' p x) = opaques s x
+opaques s (IsFalse' p x) = opaques s x
 
 -- ---- the expression
 
@@ -72,14 +73,14 @@ is_false_tree true e = is_not_null (and_tree e (truth_literal None))
 is_false_tree false e = and_tree (not e) (is_not_null e)
 
 -- the expression of a condition whose first leaf that isn't read is the column k
-abbrev pub lowered : List Named → ℕ → Condition → Tree Place
-lowered scope k (Leaf' l) = leaf_tree k (reading scope l.test)
-lowered scope k (Not' p x) = not (lowered scope k x)
-lowered scope k (And' p x q y) = and_tree (lowered scope k x) (lowered scope (k + length (opaques scope x)) y)
-lowered scope k (Or' p x q y) = or_tree (lowered scope k x) (lowered scope (k + length (opaques scope x)) y)
-lowered scope k (IsNull' p x) = is_null (lowered scope k x)
-lowered scope k (IsTrue' p x) = is_true_tree (has_truth_test x) (lowered scope k x)
-lowered scope k (IsFalse' p x) = is_false_tree (has_truth_test x) (lowered scope k x)
+abbrev pub lowered : SchemaData → ℕ → Condition → Tree Place
+lowered s k (Leaf' l) = leaf_tree k (reading s l.test)
+lowered s k (Not' p x) = not (lowered s k x)
+lowered s k (And' p x q y) = and_tree (lowered s k x) (lowered s (k + length (opaques s x)) y)
+lowered s k (Or' p x q y) = or_tree (lowered s k x) (lowered s (k + length (opaques s x)) y)
+lowered s k (IsNull' p x) = is_null (lowered s k x)
+lowered s k (IsTrue' p x) = is_true_tree (has_truth_test x) (lowered s k x)
+lowered s k (IsFalse' p x) = is_false_tree (has_truth_test x) (lowered s k x)
 
 -- ---- the meaning of a condition, where a leaf that isn't read has the truth that f tells
 
@@ -93,14 +94,14 @@ is_known_as b None = false
 is_known_as true (Some a) = a
 is_known_as false (Some a) = not_b a
 
-abbrev pub truth_on : List Named → List Constant → (Leaf → Option Bool) → Condition → Option Bool
-truth_on scope row f (Leaf' l) = leaf_truth (reading scope l.test) (test_truth scope row l.test) (f l)
-truth_on scope row f (Not' p x) = opposite (truth_on scope row f x)
-truth_on scope row f (And' p x q y) = both (truth_on scope row f x) (truth_on scope row f y)
-truth_on scope row f (Or' p x q y) = either (truth_on scope row f x) (truth_on scope row f y)
-truth_on scope row f (IsNull' p x) = Some (is_none (truth_on scope row f x))
-truth_on scope row f (IsTrue' p x) = Some (is_known_as true (truth_on scope row f x))
-truth_on scope row f (IsFalse' p x) = Some (is_known_as false (truth_on scope row f x))
+abbrev pub truth_on : SchemaData → List Constant → (Leaf → Option Bool) → Condition → Option Bool
+truth_on s row f (Leaf' l) = leaf_truth (reading s l.test) (test_truth s row l.test) (f l)
+truth_on s row f (Not' p x) = opposite (truth_on s row f x)
+truth_on s row f (And' p x q y) = both (truth_on s row f x) (truth_on s row f y)
+truth_on s row f (Or' p x q y) = either (truth_on s row f x) (truth_on s row f y)
+truth_on s row f (IsNull' p x) = Some (is_none (truth_on s row f x))
+truth_on s row f (IsTrue' p x) = Some (is_known_as true (truth_on s row f x))
+truth_on s row f (IsFalse' p x) = Some (is_known_as false (truth_on s row f x))
 
 -- ---- types
 
@@ -128,7 +129,7 @@ abbrev pub with_told : List Constant → (Leaf → Option Bool) → List Leaf �
 with_told row f leaves = row ++ map (λ l. told_cell (f l)) leaves
 
 -- on each row of the scope, whatever is told of the leaves that aren't read, the expression means on the row with that what the condition means
-abbrev pub Says : List Named → Condition → Tree Place → Type 0
-Says scope c e =
-    (row : List Constant) (f : Leaf → Option Bool) (n : ℕ) → IsRowOf scope row
-    → meaning e (with_told row f (opaques scope c)) n ≡ truth_value (truth_on scope row f c)
+abbrev pub Says : SchemaData → Condition → Tree Place → Type 0
+Says s c e =
+    (row : List Constant) (f : Leaf → Option Bool) (n : ℕ) → IsRowOf s.scope row
+    → meaning e (with_told row f (opaques s c)) n ≡ truth_value (truth_on s row f c)

@@ -1,5 +1,5 @@
 -- What is said of a test: an expression, nothing, or that the types of its operands don't fit.
-use Rattle.std.specs.Prelude.{◌≡◌, ℕ, ◌++◌, ℤ, Bool, true, false, Option, Some, None, List, [], ◌∷◌, Result, Ok, Err, if◌then◌else◌, MatchResult, is_none, is_some}
+use Rattle.std.specs.Prelude.{◌≡◌, ◌==◌, ◌&&◌, ℕ, ◌++◌, Bool, true, false, nat_le, Option, Some, None, List, [], ◌∷◌, Result, Ok, Err, if◌then◌else◌, MatchResult, is_none, is_some}
 use Rattle.std.specs.declared.cmp.Ordering.{Ordering}
 use Rattle.vortex_base.specs.declared.types.PType.{PType}
 use Rattle.vortex_base.specs.declared.types.Nullability.TheVariants.{Nullable, NonNullable}
@@ -8,30 +8,40 @@ use Rattle.vortex_base.specs.declared.dtype.DType.TheVariants as dtype
 use Rattle.vortex_base.specs.declared.scalar_value.ScalarValue.{ScalarValue}
 use Rattle.vortex_base.specs.declared.scalar_value.ScalarValue.TheVariants as value
 use Rattle.vortex_base.specs.Data.Types.{eq_ignore_nullability}
-use Rattle.vortex_base.specs.Data.Scopes.{Named}
 use Rattle.vortex_expr.specs.declared.scalar_fn.Operator.{Operator}
 use Rattle.vortex_expr.specs.declared.scalar_fn.Operator.TheVariants as operator
-use Rattle.vortex_expr.specs.Meanings.Binding.{find_column}
 use Rattle.vortex_expr.specs.Meanings.Meaning.{holds, truth_value}
 use Rattle.vortex_expr.specs.Meanings.Typing.{is_bool, is_utf8}
 use Rattle.vortex_expr.specs.Patterns.Like.{plain}
 use Rattle.vortex_expr.specs.Trees.Tree.{Tree, Place, literal, column, binary, is_null, is_not_null, like}
+use Rattle.vortex_logical.specs.declared.comparison.Comparison.{Comparison}
+use Rattle.vortex_logical.specs.declared.comparison.Comparison.TheVariants as comparison
+use Rattle.vortex_logical.specs.declared.lower.CellTest.{CellTest}
+use Rattle.vortex_logical.specs.Lowering.{lowered}
+use Rattle.vortex_logical.specs.Points.{place_of}
 use Rattle.vortex_sql.specs.declared.fault.Fault.{Fault}
 use Rattle.vortex_sql.specs.declared.fault.Fault.TheVariants.{Memory, Misfit}
 use Rattle.vortex_sql.specs.declared.found.Found.{Found}
-use Rattle.vortex_sql.specs.declared.syntax.tree.Comparison.{Comparison}
-use Rattle.vortex_sql.specs.declared.syntax.tree.Comparison.TheVariants as comparison
 use Rattle.vortex_sql.specs.declared.syntax.tree.Escape.TheVariants as escape
 use Rattle.vortex_sql.specs.declared.syntax.tree.Operand.{Operand}
 use Rattle.vortex_sql.specs.declared.syntax.tree.Operand.TheVariants as operand
 use Rattle.vortex_sql.specs.declared.syntax.tree.Test.{Test}
 use Rattle.vortex_sql.specs.declared.syntax.tree.Test.TheVariants as test
-use Rattle.vortex_sql.specs.Sql.{Item, truth as truth_item, number, text, binary as binary_item, item_cmp, operator_of, flipped}
-use Rattle.vortex_sql.specs.Numbers.{clamped, fractional}
+use Rattle.vortex_sql.specs.declared.syntax.tree.ExactNumber.{ExactNumber}
+use Rattle.vortex_sql.specs.declared.typing.KindFit.{KindFit}
+use Rattle.vortex_sql.specs.declared.typing.KindFit.TheVariants.{Same, ByZone, Other as OtherKind}
+use Rattle.vortex_sql.specs.Schemas.{Field, SchemaData, find_field}
+use Rattle.vortex_logical.specs.declared.logical_type.ExactKind.TheVariants.{Number}
+use Rattle.vortex_sql.specs.Typing.{are_same_cells, beside, is_same, kind_fit, kind_of, step_of}
+use Rattle.vortex_sql.specs.Sql.{Item, truth as truth_item, exact_item, text, binary as binary_item, item_cmp, operator_of, flipped}
+use Rattle.vortex_sql.specs.Numbers.{range_of, sized_in}
 use Rattle.vortex_sql.specs.Halves.{joined}
 
 abbrev pub place_of_found : Found → Place
 place_of_found f = record { index = f.index; dtype = f.dtype }
+
+abbrev pub field_of_found : Found → Field
+field_of_found f = record { place = place_of_found f; logical = f.logical }
 
 abbrev pub tree_of_found : Found → Tree Place
 tree_of_found f = column (place_of_found f)
@@ -64,13 +74,20 @@ truth_literal b = literal (record { dtype = bool_or_null; value = truth_value b 
 abbrev pub constant : DType → ScalarValue → Tree Place
 constant t v = literal (record { dtype = t; value = Some v })
 
--- the value of a literal, which may be null, or nothing of what is none; fractions aren't compared with literals
+-- two literal numbers are compared only if they are whole
+abbrev pub is_whole : ExactNumber → Bool
+is_whole x = is_same (kind_fit x.kind Number) && (x.scale == 0)
+
+abbrev pub whole_literal : ExactNumber → Bool → Option (Option Item)
+whole_literal x true = Some (Some (exact_item x))
+whole_literal x false = None
+
+-- the value of a literal, which may be null, or nothing of what is none
 abbrev pub literal_of : Operand → Option (Option Item)
 literal_of (operand.Column name) = None
 literal_of operand.Null = Some None
 literal_of (operand.Truth b) = Some (Some (truth_item b))
-literal_of (operand.Integer z) = Some (Some (number z))
-literal_of (operand.Fraction z) = None
+literal_of (operand.Exact x) = whole_literal x (is_whole x)
 literal_of (operand.Text bs) = Some (Some (text bs))
 literal_of (operand.Binary bs) = Some (Some (binary_item bs))
 literal_of operand.Other = None
@@ -102,51 +119,69 @@ literals c a b = unread
 abbrev pub comparing : Comparison → Place → Tree Place → Tree Place
 comparing c p t = binary (operator_of c) (column p) t
 
-abbrev pub with_number : Comparison → Place → PType → DType → ℤ → Tree Place
-with_number c p n t z = comparing (clamped c n z).0 p (constant t (value.Primitive (clamped c n z).1))
+-- the test of a column's numbers that says what the comparison with the literal says
+abbrev pub exact_test : Comparison → Field → PType → ExactNumber → CellTest
+exact_test c f n x = lowered c (place_of (step_of f.logical) x.top x.scale) (range_of n)
 
-abbrev pub with_fraction : Comparison → Place → PType → DType → ℤ → Tree Place
-with_fraction c p n t z = comparing (fractional c n z).0 p (constant t (value.Primitive (fractional c n z).1))
+abbrev pub testing : CellTest → Place → PType → DType → Tree Place
+testing r p n t = comparing r.comparison p (constant t (value.Primitive (sized_in n r.number)))
+
+-- a literal of more than 33 digits behind the point isn't read
+abbrev pub exact_reading : Comparison → Field → PType → DType → ExactNumber → Reading
+exact_reading c f n t x = if nat_le x.scale 33 then said (testing (exact_test c f n x) f.place n t) else unread
+
+-- A number of another kind misfits a column of a logical type. One whose cells are the numbers themselves may stand for anything, so nothing is said.
+abbrev pub of_fit : KindFit → (is_logical : Bool) → Reading → Reading
+of_fit Same b r = r
+of_fit ByZone b r = unread
+of_fit OtherKind true r = Err Misfit
+of_fit OtherKind false r = unread
+
+abbrev pub with_kind : Comparison → Field → PType → DType → ExactNumber → Reading
+with_kind c f n t x = of_fit (kind_fit (kind_of f.logical) x.kind) (is_some f.logical) (exact_reading c f n t x)
 
 -- a column of a type with an operand that is no column: a literal takes the column's type
-abbrev pub with_literal : Comparison → Place → DType → Operand → Reading
-with_literal c p t operand.Other = unread
-with_literal c p t operand.Null = said (truth_literal None)
-with_literal c p (dtype.Primitive n m) (operand.Integer z) = said (with_number c p n (dtype.Primitive n m) z)
-with_literal c p (dtype.Primitive n m) (operand.Fraction z) = said (with_fraction c p n (dtype.Primitive n m) z)
-with_literal c p (dtype.Bool m) (operand.Truth b) = said (comparing c p (constant (dtype.Bool m) (value.Bool b)))
-with_literal c p (dtype.Utf8 m) (operand.Text bs) = said (comparing c p (constant (dtype.Utf8 m) (value.Utf8 bs)))
-with_literal c p (dtype.Binary m) (operand.Binary bs) = said (comparing c p (constant (dtype.Binary m) (value.Binary bs)))
-with_literal c p t y = Err Misfit
+abbrev pub with_literal : Comparison → Field → DType → Operand → Reading
+with_literal c f t operand.Other = unread
+with_literal c f t operand.Null = said (truth_literal None)
+with_literal c f (dtype.Primitive n m) (operand.Exact x) = with_kind c f n (dtype.Primitive n m) x
+with_literal c f (dtype.Bool m) (operand.Truth b) = said (comparing c f.place (constant (dtype.Bool m) (value.Bool b)))
+with_literal c f (dtype.Utf8 m) (operand.Text bs) = said (comparing c f.place (constant (dtype.Utf8 m) (value.Utf8 bs)))
+with_literal c f (dtype.Binary m) (operand.Binary bs) = said (comparing c f.place (constant (dtype.Binary m) (value.Binary bs)))
+with_literal c f t y = Err Misfit
 
--- two columns of types that are both of numbers, of which only those of one type are compared
+-- two columns of types that are both of numbers, of which only those whose cells stand for the same values are compared
 abbrev pub are_numbers : DType → DType → Bool
 are_numbers (dtype.Primitive p m) (dtype.Primitive q n) = true
 are_numbers s t = false
 
-abbrev pub with_place : Comparison → Place → Option Place → Reading
-with_place c p None = unread
-with_place c p (Some q) =
-    if eq_ignore_nullability p.dtype q.dtype then said (comparing c p (column q))
-    else (if are_numbers p.dtype q.dtype then unread else Err Misfit)
+abbrev pub with_place : Comparison → Field → Option Field → Reading
+with_place c f None = unread
+with_place c f (Some g) =
+    if eq_ignore_nullability f.place.dtype g.place.dtype && are_same_cells f.logical g.logical then said (comparing c f.place (column g.place))
+    else (if are_numbers f.place.dtype g.place.dtype then unread else Err Misfit)
 
-abbrev pub with_operand : List Named → Comparison → Place → Operand → Reading
-with_operand scope c p (operand.Column name) = with_place c p (find_column scope name)
-with_operand scope c p y = with_literal c p p.dtype y
+abbrev pub with_operand : SchemaData → Comparison → Field → Operand → Reading
+with_operand s c f (operand.Column name) = with_place c f (find_field s name)
+with_operand s c f y = with_literal c f f.place.dtype y
 
-abbrev pub from_place : List Named → Comparison → Option Place → Operand → Reading
-from_place scope c None operand.Null = said (truth_literal None)
-from_place scope c None y = unread
-from_place scope c (Some p) y = with_operand scope c p y
+abbrev pub from_place : SchemaData → Comparison → Option Field → Operand → Reading
+from_place s c None operand.Null = said (truth_literal None)
+from_place s c None y = unread
+from_place s c (Some f) y = with_operand s c f y
 
 -- an operand that is no column with another one
-abbrev pub from_literal : List Named → Comparison → Operand → Operand → Reading
-from_literal scope c x (operand.Column name) = from_place scope (flipped c) (find_column scope name) x
-from_literal scope c x y = literals c (literal_of x) (literal_of y)
+abbrev pub from_literal : SchemaData → Comparison → Operand → Operand → Reading
+from_literal s c x (operand.Column name) = from_place s (flipped c) (find_field s name) x
+from_literal s c x y = literals c (literal_of x) (literal_of y)
 
-abbrev pub compare : List Named → Comparison → Operand → Operand → Reading
-compare scope c (operand.Column name) y = from_place scope c (find_column scope name) y
-compare scope c x y = from_literal scope c x y
+abbrev pub compare_typed : SchemaData → Comparison → Operand → Operand → Reading
+compare_typed s c (operand.Column name) y = from_place s c (find_field s name) y
+compare_typed s c x y = from_literal s c x y
+
+-- each operand as the other one types it
+abbrev pub compare : SchemaData → Comparison → Operand → Operand → Reading
+compare s c x y = compare_typed s c (beside s y x) (beside s x y)
 
 -- ---- other tests
 
@@ -162,39 +197,39 @@ joined_by o (Ok a) (Err e) = Err e
 joined_by o (Err e) b = Err e
 
 -- a column that stands for a truth
-abbrev pub as_truth : Option Place → Reading
+abbrev pub as_truth : Option Field → Reading
 as_truth None = unread
-as_truth (Some p) = if is_bool p.dtype then said (column p) else Err Misfit
+as_truth (Some f) = if is_bool f.place.dtype then said (column f.place) else Err Misfit
 
-abbrev pub truth : List Named → Operand → Reading
-truth scope (operand.Column name) = as_truth (find_column scope name)
-truth scope operand.Null = said (truth_literal None)
-truth scope (operand.Truth b) = said (truth_literal (Some b))
-truth scope operand.Other = unread
-truth scope x = Err Misfit
+abbrev pub truth : SchemaData → Operand → Reading
+truth s (operand.Column name) = as_truth (find_field s name)
+truth s operand.Null = said (truth_literal None)
+truth s (operand.Truth b) = said (truth_literal (Some b))
+truth s operand.Other = unread
+truth s x = Err Misfit
 
-abbrev pub as_null_test : Option Place → Reading
+abbrev pub as_null_test : Option Field → Reading
 as_null_test None = unread
-as_null_test (Some p) = said (is_null (column p))
+as_null_test (Some f) = said (is_null (column f.place))
 
 -- whether a literal is null
 abbrev pub literal_null_test : Option (Option Item) → Reading
 literal_null_test None = unread
 literal_null_test (Some v) = said (truth_literal (Some (is_none v)))
 
-abbrev pub null_test : List Named → Operand → Reading
-null_test scope (operand.Column name) = as_null_test (find_column scope name)
-null_test scope x = literal_null_test (literal_of x)
+abbrev pub null_test : SchemaData → Operand → Reading
+null_test s (operand.Column name) = as_null_test (find_field s name)
+null_test s x = literal_null_test (literal_of x)
 
 -- a column is distinct from a literal if it differs from it or is null; of two columns that isn't said
-abbrev pub distinct_from : Place → Operand → Reading
-distinct_from p (operand.Column name) = unread
-distinct_from p operand.Null = said (is_not_null (column p))
-distinct_from p y = joined_by operator.Or (with_literal comparison.NotEq p p.dtype y) (said (is_null (column p)))
+abbrev pub distinct_from : Field → Operand → Reading
+distinct_from f (operand.Column name) = unread
+distinct_from f operand.Null = said (is_not_null (column f.place))
+distinct_from f y = joined_by operator.Or (with_literal comparison.NotEq f f.place.dtype y) (said (is_null (column f.place)))
 
-abbrev pub distinct_at : Option Place → Operand → Reading
+abbrev pub distinct_at : Option Field → Operand → Reading
 distinct_at None y = unread
-distinct_at (Some p) y = distinct_from p y
+distinct_at (Some f) y = distinct_from f y
 
 -- two literals by whether each has a value and by their order: a null is distinct from a value alone
 abbrev pub distinct_by : Option Bool → Option Bool → Option Ordering → Reading
@@ -207,19 +242,23 @@ distinct_by (Some true) (Some true) o = folded comparison.NotEq o
 abbrev pub distinct_literals : Option (Option Item) → Option (Option Item) → Reading
 distinct_literals i j = distinct_by (has_value i) (has_value j) (literal_order i j)
 
-abbrev pub distinct_from_literal : List Named → Operand → Operand → Reading
-distinct_from_literal scope x (operand.Column name) = distinct_at (find_column scope name) x
-distinct_from_literal scope x y = distinct_literals (literal_of x) (literal_of y)
+abbrev pub distinct_from_literal : SchemaData → Operand → Operand → Reading
+distinct_from_literal s x (operand.Column name) = distinct_at (find_field s name) x
+distinct_from_literal s x y = distinct_literals (literal_of x) (literal_of y)
 
-abbrev pub distinct_test : List Named → Operand → Operand → Reading
-distinct_test scope (operand.Column name) y = distinct_at (find_column scope name) y
-distinct_test scope x y = distinct_from_literal scope x y
+abbrev pub distinct_typed : SchemaData → Operand → Operand → Reading
+distinct_typed s (operand.Column name) y = distinct_at (find_field s name) y
+distinct_typed s x y = distinct_from_literal s x y
 
-abbrev pub between_test : List Named → Operand → Operand → Operand → Reading
-between_test scope x l u = joined_by operator.And (compare scope comparison.Gte x l) (compare scope comparison.Lte x u)
+-- each operand as the other one types it
+abbrev pub distinct_test : SchemaData → Operand → Operand → Reading
+distinct_test s x y = distinct_typed s (beside s y x) (beside s x y)
 
-abbrev pub symmetric_test : List Named → Operand → Operand → Operand → Reading
-symmetric_test scope x l u = joined_by operator.Or (between_test scope x l u) (between_test scope x u l)
+abbrev pub between_test : SchemaData → Operand → Operand → Operand → Reading
+between_test s x l u = joined_by operator.And (compare s comparison.Gte x l) (compare s comparison.Lte x u)
+
+abbrev pub symmetric_test : SchemaData → Operand → Operand → Operand → Reading
+symmetric_test s x l u = joined_by operator.Or (between_test s x l u) (between_test s x u l)
 
 -- the expressions that are said of the members of a list, if all are said
 abbrev pub Members : Type 0
@@ -235,36 +274,36 @@ with_member (Ok a) (Ok b) = Ok (one_more a b)
 with_member (Ok a) (Err e) = Err e
 with_member (Err e) b = Err e
 
-abbrev pub members_from : List Named → Operand → Members → List Operand → Members
-members_from scope x before [] = before
-members_from scope x before (y ∷ ys) = members_from scope x (with_member before (compare scope comparison.Eq x y)) ys
+abbrev pub members_from : SchemaData → Operand → Members → List Operand → Members
+members_from s x before [] = before
+members_from s x before (y ∷ ys) = members_from s x (with_member before (compare s comparison.Eq x y)) ys
 
 abbrev pub any_of : Members → Reading
 any_of (Ok (Some es)) = Ok (joined es)
 any_of (Ok None) = unread
 any_of (Err e) = Err e
 
-abbrev pub member : List Named → Operand → List Operand → Reading
-member scope x ys = any_of (members_from scope x (Ok (Some [])) ys)
+abbrev pub member : SchemaData → Operand → List Operand → Reading
+member s x ys = any_of (members_from s x (Ok (Some [])) ys)
 
-abbrev pub like_place : Option Place → List ℕ → Reading
+abbrev pub like_place : Option Field → List ℕ → Reading
 like_place None bs = unread
-like_place (Some p) bs = if is_utf8 p.dtype then said (like plain (column p) (constant (dtype.Utf8 NonNullable) (value.Utf8 bs))) else Err Misfit
+like_place (Some f) bs = if is_utf8 f.place.dtype then said (like plain (column f.place) (constant (dtype.Utf8 NonNullable) (value.Utf8 bs))) else Err Misfit
 
 -- a column with a pattern
-abbrev pub pattern_test : List Named → Operand → Operand → Reading
-pattern_test scope (operand.Column name) (operand.Text bs) = like_place (find_column scope name) bs
-pattern_test scope x operand.Null = said (truth_literal None)
-pattern_test scope x p = unread
+abbrev pub pattern_test : SchemaData → Operand → Operand → Reading
+pattern_test s (operand.Column name) (operand.Text bs) = like_place (find_field s name) bs
+pattern_test s x operand.Null = said (truth_literal None)
+pattern_test s x p = unread
 
-abbrev pub reading : List Named → Test → Reading
-reading scope (test.Truth x) = truth scope x
-reading scope (test.Compare c x y) = compare scope c x y
-reading scope (test.Distinct x y) = distinct_test scope x y
-reading scope (test.IsNull x) = null_test scope x
-reading scope (test.Between x l u) = between_test scope x l u
-reading scope (test.BetweenSymmetric x l u) = symmetric_test scope x l u
-reading scope (test.In x ys) = member scope x ys
-reading scope (test.Like x p escape.Backslash) = pattern_test scope x p
-reading scope (test.Like x p e) = unread
-reading scope test.Other = unread
+abbrev pub reading : SchemaData → Test → Reading
+reading s (test.Truth x) = truth s x
+reading s (test.Compare c x y) = compare s c x y
+reading s (test.Distinct x y) = distinct_test s x y
+reading s (test.IsNull x) = null_test s x
+reading s (test.Between x l u) = between_test s x l u
+reading s (test.BetweenSymmetric x l u) = symmetric_test s x l u
+reading s (test.In x ys) = member s x ys
+reading s (test.Like x p escape.Backslash) = pattern_test s x p
+reading s (test.Like x p e) = unread
+reading s test.Other = unread

@@ -1,29 +1,33 @@
 -- What a test of SQL means on a row.
-use Rattle.std.specs.Prelude.{ℕ, ℤ, pos, int_le, ◌==◌, Bool, true, false, Option, Some, None, List, [], ◌∷◌, option_map, is_none, slice_get, if◌then◌else◌}
+use Rattle.std.specs.Prelude.{ℕ, ℤ, pos, ◌==◌, Bool, true, false, Option, Some, None, List, [], ◌∷◌, option_map, is_none, slice_get, if◌then◌else◌}
 use Rattle.std.specs.declared.cmp.Ordering.{Ordering}
-use Rattle.std.specs.declared.cmp.Ordering.TheVariants.{Less, Greater}
-use Rattle.std.specs.Ordering.{int_cmp, nat_cmp, ordering_reverse}
+use Rattle.std.specs.Ordering.{int_cmp, nat_cmp}
 use Rattle.std.specs.Cmp.Lexicographic.{slice_cmp}
 use Rattle.vortex_base.specs.declared.scalar_value.ScalarValue.{ScalarValue}
 use Rattle.vortex_base.specs.declared.scalar_value.ScalarValue.TheVariants as value
 use Rattle.vortex_base.specs.Data.Values.{number_of}
 use Rattle.vortex_base.specs.Data.Scalars.{Constant}
-use Rattle.vortex_base.specs.Data.Scopes.{Named}
 use Rattle.vortex_base.specs.Data.Columns.{cell_value}
 use Rattle.vortex_expr.specs.declared.scalar_fn.Operator.{Operator}
 use Rattle.vortex_expr.specs.declared.scalar_fn.Operator.TheVariants as operator
 use Rattle.vortex_expr.specs.Patterns.Like.{like_text}
 use Rattle.vortex_expr.specs.Meanings.Meaning.{both, either, holds}
-use Rattle.vortex_expr.specs.Meanings.Binding.{find_column}
-use Rattle.vortex_expr.specs.Trees.Tree.{Place}
-use Rattle.vortex_sql.specs.declared.syntax.tree.Comparison.{Comparison}
-use Rattle.vortex_sql.specs.declared.syntax.tree.Comparison.TheVariants as comparison
+use Rattle.vortex_logical.specs.declared.comparison.Comparison.{Comparison}
+use Rattle.vortex_logical.specs.declared.comparison.Comparison.TheVariants as comparison
+use Rattle.vortex_logical.specs.declared.logical_type.ExactKind.{ExactKind}
+use Rattle.vortex_logical.specs.declared.logical_type.LogicalType.{LogicalType}
+use Rattle.vortex_logical.specs.Meaning.{Fraction, fraction_cmp, over, steps}
 use Rattle.vortex_sql.specs.declared.syntax.tree.Escape.{Escape}
 use Rattle.vortex_sql.specs.declared.syntax.tree.Escape.TheVariants as escape
 use Rattle.vortex_sql.specs.declared.syntax.tree.Operand.{Operand}
 use Rattle.vortex_sql.specs.declared.syntax.tree.Operand.TheVariants as operand
 use Rattle.vortex_sql.specs.declared.syntax.tree.Test.{Test}
 use Rattle.vortex_sql.specs.declared.syntax.tree.Test.TheVariants as test
+use Rattle.vortex_sql.specs.declared.syntax.tree.ExactNumber.{ExactNumber}
+use Rattle.vortex_sql.specs.declared.typing.KindFit.{KindFit}
+use Rattle.vortex_sql.specs.declared.typing.KindFit.TheVariants.{Same, ByZone, Other}
+use Rattle.vortex_sql.specs.Schemas.{Field, SchemaData, find_field}
+use Rattle.vortex_sql.specs.Typing.{beside, kind_fit, kind_of, step_of}
 
 abbrev pub operator_of : Comparison → Operator
 operator_of comparison.Eq = operator.Eq
@@ -44,35 +48,38 @@ flipped comparison.Lte = comparison.Gte
 
 -- ---- values as SQL compares them
 
--- a number is its size, whatever the width of its type; a fraction is a number above a whole one and below the next
+-- a number is its size, whatever the width of its type, beside what it counts
 pub data Item : Type 0 where
   truth : Bool → Item
-  number : ℤ → Item
-  fraction : ℤ → Item
+  exact : ExactKind → Fraction → Item
   text : List ℕ → Item
   binary : List ℕ → Item
 
-abbrev pub item_of : ScalarValue → Item
-item_of (value.Bool b) = truth b
-item_of (value.Primitive p) = number (number_of p)
-item_of (value.Utf8 bs) = text bs
-item_of (value.Binary bs) = binary bs
+-- the value that a cell of a column stands for
+abbrev pub item_of : Option LogicalType → ScalarValue → Item
+item_of t (value.Bool b) = truth b
+item_of t (value.Primitive p) = exact (kind_of t) (steps (step_of t) (number_of p))
+item_of t (value.Utf8 bs) = text bs
+item_of t (value.Binary bs) = binary bs
+
+-- the value of a literal number
+abbrev pub exact_item : ExactNumber → Item
+exact_item x = exact x.kind (over x.top x.scale)
 
 -- false comes before true
 abbrev pub rank : Bool → ℤ
 rank false = pos 0
 rank true = pos 1
 
--- how a whole number compares with one above z and below the next
-abbrev pub against_fraction : ℤ → ℤ → Ordering
-against_fraction a z = if int_le a z then Less else Greater
+abbrev pub exact_cmp : KindFit → Fraction → Fraction → Option Ordering
+exact_cmp Same a b = Some (fraction_cmp a b)
+exact_cmp ByZone a b = None
+exact_cmp Other a b = None
 
--- numbers by size, texts and bytes by their bytes; values of two kinds don't compare, nor are two fractions compared
+-- numbers of one kind by size, texts and bytes by their bytes; values of two kinds don't compare
 abbrev pub item_cmp : Item → Item → Option Ordering
 item_cmp (truth a) (truth b) = Some (int_cmp (rank a) (rank b))
-item_cmp (number a) (number b) = Some (int_cmp a b)
-item_cmp (number a) (fraction z) = Some (against_fraction a z)
-item_cmp (fraction z) (number b) = Some (ordering_reverse (against_fraction b z))
+item_cmp (exact k a) (exact l b) = exact_cmp (kind_fit k l) a b
 item_cmp (text a) (text b) = Some (slice_cmp nat_cmp a b)
 item_cmp (binary a) (binary b) = Some (slice_cmp nat_cmp a b)
 item_cmp a b = None
@@ -119,15 +126,6 @@ abbrev pub pattern_of : Escape → Option Item → Option Item
 pattern_of e (Some (text bs)) = option_map text (pattern_in e bs)
 pattern_of e v = v
 
--- x lies between them, the ends included
-abbrev pub within : Option Item → Option Item → Option Item → Option Bool
-within x lower upper = both (compared comparison.Gte x lower) (compared comparison.Lte x upper)
-
--- x equals one of them: true if it equals one, null if it doesn't and x or one of them is null
-abbrev pub among : Option Item → List (Option Item) → Option Bool
-among x [] = Some false
-among x (y ∷ ys) = either (compared comparison.Eq x y) (among x ys)
-
 abbrev pub truth_of : Option Item → Option Bool
 truth_of (Some (truth b)) = Some b
 truth_of v = None
@@ -135,32 +133,40 @@ truth_of v = None
 -- ---- operands and tests on a row
 
 -- the optional value of a column on a row
-abbrev pub cell_at : List Constant → Option Place → Option ScalarValue
-cell_at row None = None
-cell_at row (Some p) = cell_value (slice_get row p.index)
+abbrev pub field_value : List Constant → Option Field → Option Item
+field_value row None = None
+field_value row (Some f) = option_map (item_of f.logical) (cell_value (slice_get row f.place.index))
 
-abbrev pub value_in : List Named → List Constant → Operand → Option Item
-value_in scope row (operand.Column name) = option_map item_of (cell_at row (find_column scope name))
-value_in scope row operand.Null = None
-value_in scope row (operand.Truth b) = Some (truth b)
-value_in scope row (operand.Integer z) = Some (number z)
-value_in scope row (operand.Fraction z) = Some (fraction z)
-value_in scope row (operand.Text bs) = Some (text bs)
-value_in scope row (operand.Binary bs) = Some (binary bs)
-value_in scope row operand.Other = None
+abbrev pub value_in : SchemaData → List Constant → Operand → Option Item
+value_in s row (operand.Column name) = field_value row (find_field s name)
+value_in s row operand.Null = None
+value_in s row (operand.Truth b) = Some (truth b)
+value_in s row (operand.Exact x) = Some (exact_item x)
+value_in s row (operand.Text bs) = Some (text bs)
+value_in s row (operand.Binary bs) = Some (binary bs)
+value_in s row operand.Other = None
 
-abbrev pub values_in : List Named → List Constant → List Operand → List (Option Item)
-values_in scope row [] = []
-values_in scope row (y ∷ ys) = value_in scope row y ∷ values_in scope row ys
+-- two operands compared, each as the other one types it
+abbrev pub compared_on : SchemaData → List Constant → Comparison → Operand → Operand → Option Bool
+compared_on s row c x y = compared c (value_in s row (beside s y x)) (value_in s row (beside s x y))
+
+-- x lies between them, the ends included
+abbrev pub within_on : SchemaData → List Constant → Operand → Operand → Operand → Option Bool
+within_on s row x lower upper = both (compared_on s row comparison.Gte x lower) (compared_on s row comparison.Lte x upper)
+
+-- x equals one of them: true if it equals one, null if it doesn't and x or one of them is null
+abbrev pub among_on : SchemaData → List Constant → Operand → List Operand → Option Bool
+among_on s row x [] = Some false
+among_on s row x (y ∷ ys) = either (compared_on s row comparison.Eq x y) (among_on s row x ys)
 
 -- what a test means on a row; one that isn't read has its truth from elsewhere
-abbrev pub test_truth : List Named → List Constant → Test → Option Bool
-test_truth scope row (test.Truth x) = truth_of (value_in scope row x)
-test_truth scope row (test.Compare c x y) = compared c (value_in scope row x) (value_in scope row y)
-test_truth scope row (test.Distinct x y) = distinct (value_in scope row x) (value_in scope row y)
-test_truth scope row (test.IsNull x) = Some (is_none (value_in scope row x))
-test_truth scope row (test.Between x l u) = within (value_in scope row x) (value_in scope row l) (value_in scope row u)
-test_truth scope row (test.BetweenSymmetric x l u) = either (within (value_in scope row x) (value_in scope row l) (value_in scope row u)) (within (value_in scope row x) (value_in scope row u) (value_in scope row l))
-test_truth scope row (test.In x ys) = among (value_in scope row x) (values_in scope row ys)
-test_truth scope row (test.Like x p e) = liked (value_in scope row x) (pattern_of e (value_in scope row p))
-test_truth scope row test.Other = None
+abbrev pub test_truth : SchemaData → List Constant → Test → Option Bool
+test_truth s row (test.Truth x) = truth_of (value_in s row x)
+test_truth s row (test.Compare c x y) = compared_on s row c x y
+test_truth s row (test.Distinct x y) = distinct (value_in s row (beside s y x)) (value_in s row (beside s x y))
+test_truth s row (test.IsNull x) = Some (is_none (value_in s row x))
+test_truth s row (test.Between x l u) = within_on s row x l u
+test_truth s row (test.BetweenSymmetric x l u) = either (within_on s row x l u) (within_on s row x u l)
+test_truth s row (test.In x ys) = among_on s row x ys
+test_truth s row (test.Like x p e) = liked (value_in s row x) (pattern_of e (value_in s row p))
+test_truth s row test.Other = None

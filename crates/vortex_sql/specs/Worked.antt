@@ -1,6 +1,6 @@
 -- Worked rows of conditions of SQL.
 use Rattle.std.specs.Prelude.{◌≡◌, ℕ, ℤ, pos, negsuc, Bool, true, false, Option, Some, None, List, [], ◌∷◌, Err, codes}
-use Rattle.std.specs.declared.cmp.Ordering.TheVariants.{Less, Greater}
+use Rattle.std.specs.declared.cmp.Ordering.TheVariants.{Less, Equal, Greater}
 use Rattle.vortex_base.specs.declared.types.Nullability.TheVariants.{Nullable}
 use Rattle.vortex_base.specs.declared.types.PType.TheVariants as ptype
 use Rattle.vortex_base.specs.declared.dtype.DType.{DType}
@@ -14,17 +14,27 @@ use Rattle.vortex_expr.specs.declared.scalar_fn.Operator.{Operator}
 use Rattle.vortex_expr.specs.declared.scalar_fn.Operator.TheVariants as operator
 use Rattle.vortex_expr.specs.Trees.Tree.{Tree, Place, binary, column, literal, is_null, is_not_null}
 use Rattle.vortex_sql.specs.declared.fault.Fault.TheVariants.{Misfit}
-use Rattle.vortex_sql.specs.declared.syntax.tree.Comparison.{Comparison}
-use Rattle.vortex_sql.specs.declared.syntax.tree.Comparison.TheVariants.{Eq, NotEq, Gt, Gte, Lt, Lte}
+use Rattle.vortex_logical.specs.declared.comparison.Comparison.{Comparison}
+use Rattle.vortex_logical.specs.declared.comparison.Comparison.TheVariants.{Eq, NotEq, Gt, Gte, Lt, Lte}
+use Rattle.vortex_logical.specs.declared.logical_type.ExactKind.{ExactKind}
+use Rattle.vortex_logical.specs.declared.logical_type.ExactKind.TheVariants as kind
+use Rattle.vortex_logical.specs.declared.logical_type.LogicalType.TheVariants as logical
+use Rattle.vortex_logical.specs.declared.time_unit.TimeUnit.TheVariants as unit
+use Rattle.vortex_logical.specs.Meaning.{over}
 use Rattle.vortex_sql.specs.declared.syntax.tree.Escape.TheVariants as escape
 use Rattle.vortex_sql.specs.declared.syntax.tree.Operand.{Operand}
-use Rattle.vortex_sql.specs.declared.syntax.tree.Operand.TheVariants.{Column, Null, Truth, Integer, Fraction, Text, Binary, Other}
+use Rattle.vortex_sql.specs.declared.syntax.tree.Operand.TheVariants.{Column, Null, Truth, Exact, Text, Binary, Other}
 use Rattle.vortex_sql.specs.declared.syntax.tree.Test.{Test}
 use Rattle.vortex_sql.specs.declared.syntax.tree.Test.TheVariants as test
 use Rattle.vortex_sql.specs.Sql as sql
 use Rattle.vortex_sql.specs.Sql.{item_cmp, distinct, flipped, test_truth, pattern_in}
 use Rattle.vortex_sql.specs.Readings.{Reading, said, unread, reading, truth_literal}
 use Rattle.vortex_sql.specs.Lowering.{is_known_as}
+use Rattle.vortex_sql.specs.Schemas.{SchemaData, plain_schema}
+use Rattle.vortex_sql.specs.Typing.{are_same_cells, beside, typed_as}
+use Rattle.vortex_logical.specs.declared.decimal.DecimalDType.{DecimalDType}
+use Rattle.vortex_literals.specs.Clocks.{instant_of, time_of, timestamp_of}
+use Rattle.vortex_literals.specs.Dates.{date_of}
 
 abbrev pub u8 : DType
 u8 = dtype.Primitive ptype.U8 Nullable
@@ -32,8 +42,21 @@ u8 = dtype.Primitive ptype.U8 Nullable
 abbrev pub i8 : DType
 i8 = dtype.Primitive ptype.I8 Nullable
 
+abbrev pub number_of : ExactKind → ℤ → ℕ → Operand
+number_of k top scale = Exact (record { kind = k; top = top; scale = scale })
+
+abbrev pub Integer : ℤ → Operand
+Integer z = number_of kind.Number z 0
+
+-- a half above a whole number
+abbrev pub half : ℤ → Operand
+half tenths = number_of kind.Number tenths 1
+
 abbrev pub scope : List Named
 scope = (codes "a", u8) ∷ (codes "b", dtype.Bool Nullable) ∷ (codes "c", i8) ∷ (codes "s", dtype.Utf8 Nullable) ∷ []
+
+abbrev pub schema : SchemaData
+schema = plain_schema scope
 
 abbrev pub a : Operand
 a = Column (codes "a")
@@ -63,10 +86,10 @@ abbrev pub c_is : Operator → ℤ → Tree Place
 c_is o z = binary o (here 2 i8) (i8_literal z)
 
 abbrev pub against : Comparison → ℤ → Reading
-against o z = reading scope (test.Compare o a (Integer z))
+against o z = reading schema (test.Compare o a (Integer z))
 
 abbrev pub signed : Comparison → ℤ → Reading
-signed o z = reading scope (test.Compare o c (Integer z))
+signed o z = reading schema (test.Compare o c (Integer z))
 
 abbrev pub known : Bool → Reading
 known v = said (truth_literal (Some v))
@@ -96,88 +119,94 @@ pub record ReadingExamples : Type 0 where
   pub signed_gt_below : signed Gt (negsuc 128) ≡ said (c_is operator.Gte (negsuc 127))
   pub signed_above : signed Gt (pos 128) ≡ said (c_is operator.Gt (pos 127))
   pub signed_lt_above : signed Lt (pos 128) ≡ said (c_is operator.Lte (pos 127))
-  pub eq_fraction : reading scope (test.Compare Eq a (Fraction (pos 3))) ≡ said (a_is operator.Gt 255)
-  pub not_eq_fraction : reading scope (test.Compare NotEq a (Fraction (pos 3))) ≡ said (a_is operator.Lte 255)
-  pub gt_fraction : reading scope (test.Compare Gt a (Fraction (pos 3))) ≡ said (a_is operator.Gt 3)
-  pub gte_fraction : reading scope (test.Compare Gte a (Fraction (pos 3))) ≡ said (a_is operator.Gt 3)
-  pub lt_fraction : reading scope (test.Compare Lt a (Fraction (pos 3))) ≡ said (a_is operator.Lte 3)
-  pub lte_fraction : reading scope (test.Compare Lte a (Fraction (pos 3))) ≡ said (a_is operator.Lte 3)
-  pub fraction_first : reading scope (test.Compare Gt (Fraction (pos 3)) a) ≡ said (a_is operator.Lte 3)
-  pub literal_first : reading scope (test.Compare Gt (Integer (pos 7)) a) ≡ said (a_is operator.Lt 7)
-  pub misfit : reading scope (test.Compare Eq a (Text (codes "x"))) ≡ Err Misfit
-  pub misfit_first : reading scope (test.Compare Eq (Text (codes "x")) a) ≡ Err Misfit
-  pub other_width : reading scope (test.Compare Eq a c) ≡ unread
-  pub same_type : reading scope (test.Compare Lt a a) ≡ said (binary operator.Lt (here 0 u8) (here 0 u8))
-  pub other_kind : reading scope (test.Compare Eq a b) ≡ Err Misfit
-  pub no_column : reading scope (test.Compare Eq (Column (codes "z")) (Integer (pos 7))) ≡ unread
-  pub no_column_behind : reading scope (test.Compare Eq (Integer (pos 7)) (Column (codes "z"))) ≡ unread
-  pub no_operand : reading scope (test.Compare Eq a Other) ≡ unread
-  pub no_operand_first : reading scope (test.Compare Eq Other a) ≡ unread
-  pub with_null : reading scope (test.Compare Eq a Null) ≡ null
-  pub with_null_first : reading scope (test.Compare Gt Null a) ≡ null
-  pub other_with_null : reading scope (test.Compare Eq Other Null) ≡ null
-  pub no_column_null : reading scope (test.Compare Eq (Column (codes "z")) Null) ≡ null
-  pub nulls : reading scope (test.Compare Eq Null Null) ≡ null
-  pub one_is_one : reading scope (test.Compare Eq (Integer (pos 1)) (Integer (pos 1))) ≡ known true
-  pub one_below_two : reading scope (test.Compare Lt (Integer (pos 1)) (Integer (pos 2))) ≡ known true
-  pub two_below_one : reading scope (test.Compare Lt (Integer (pos 2)) (Integer (pos 1))) ≡ known false
-  pub truths : reading scope (test.Compare Gt (Truth true) (Truth false)) ≡ known true
-  pub texts : reading scope (test.Compare Eq (Text (codes "x")) (Text (codes "y"))) ≡ known false
-  pub binaries : reading scope (test.Compare Lt (Binary (1 ∷ [])) (Binary (2 ∷ []))) ≡ known true
-  pub kinds : reading scope (test.Compare Eq (Integer (pos 1)) (Text (codes "1"))) ≡ Err Misfit
+  pub eq_fraction : reading schema (test.Compare Eq a (half (pos 35))) ≡ said (a_is operator.Gt 255)
+  pub not_eq_fraction : reading schema (test.Compare NotEq a (half (pos 35))) ≡ said (a_is operator.Lte 255)
+  pub gt_fraction : reading schema (test.Compare Gt a (half (pos 35))) ≡ said (a_is operator.Gt 3)
+  pub gte_fraction : reading schema (test.Compare Gte a (half (pos 35))) ≡ said (a_is operator.Gt 3)
+  pub lt_fraction : reading schema (test.Compare Lt a (half (pos 35))) ≡ said (a_is operator.Lte 3)
+  pub lte_fraction : reading schema (test.Compare Lte a (half (pos 35))) ≡ said (a_is operator.Lte 3)
+  pub fraction_first : reading schema (test.Compare Gt (half (pos 35)) a) ≡ said (a_is operator.Lte 3)
+  pub literal_first : reading schema (test.Compare Gt (Integer (pos 7)) a) ≡ said (a_is operator.Lt 7)
+  pub misfit : reading schema (test.Compare Eq a (Text (codes "x"))) ≡ Err Misfit
+  pub misfit_first : reading schema (test.Compare Eq (Text (codes "x")) a) ≡ Err Misfit
+  pub other_width : reading schema (test.Compare Eq a c) ≡ unread
+  pub same_type : reading schema (test.Compare Lt a a) ≡ said (binary operator.Lt (here 0 u8) (here 0 u8))
+  pub other_kind : reading schema (test.Compare Eq a b) ≡ Err Misfit
+  pub no_column : reading schema (test.Compare Eq (Column (codes "z")) (Integer (pos 7))) ≡ unread
+  pub no_column_behind : reading schema (test.Compare Eq (Integer (pos 7)) (Column (codes "z"))) ≡ unread
+  pub no_operand : reading schema (test.Compare Eq a Other) ≡ unread
+  pub no_operand_first : reading schema (test.Compare Eq Other a) ≡ unread
+  pub with_null : reading schema (test.Compare Eq a Null) ≡ null
+  pub with_null_first : reading schema (test.Compare Gt Null a) ≡ null
+  pub other_with_null : reading schema (test.Compare Eq Other Null) ≡ null
+  pub no_column_null : reading schema (test.Compare Eq (Column (codes "z")) Null) ≡ null
+  pub nulls : reading schema (test.Compare Eq Null Null) ≡ null
+  pub one_is_one : reading schema (test.Compare Eq (Integer (pos 1)) (Integer (pos 1))) ≡ known true
+  pub one_below_two : reading schema (test.Compare Lt (Integer (pos 1)) (Integer (pos 2))) ≡ known true
+  pub two_below_one : reading schema (test.Compare Lt (Integer (pos 2)) (Integer (pos 1))) ≡ known false
+  pub truths : reading schema (test.Compare Gt (Truth true) (Truth false)) ≡ known true
+  pub texts : reading schema (test.Compare Eq (Text (codes "x")) (Text (codes "y"))) ≡ known false
+  pub binaries : reading schema (test.Compare Lt (Binary (1 ∷ [])) (Binary (2 ∷ []))) ≡ known true
+  pub kinds : reading schema (test.Compare Eq (Integer (pos 1)) (Text (codes "1"))) ≡ Err Misfit
 
 -- what is said of other tests
 pub record OtherReadings : Type 0 where
-  pub truth_column : reading scope (test.Truth b) ≡ said (here 1 (dtype.Bool Nullable))
-  pub no_truth : reading scope (test.Truth a) ≡ Err Misfit
-  pub truth_of_number : reading scope (test.Truth (Integer (pos 1))) ≡ Err Misfit
-  pub literal_truth : reading scope (test.Truth (Truth true)) ≡ known true
-  pub null_truth : reading scope (test.Truth Null) ≡ null
-  pub other_truth : reading scope (test.Truth Other) ≡ unread
-  pub null_test : reading scope (test.IsNull a) ≡ said (is_null (here 0 u8))
-  pub null_of_null : reading scope (test.IsNull Null) ≡ known true
-  pub null_of_number : reading scope (test.IsNull (Integer (pos 3))) ≡ known false
-  pub null_of_other : reading scope (test.IsNull Other) ≡ unread
-  pub distinct : reading scope (test.Distinct a (Integer (pos 3))) ≡ said (binary operator.Or (a_is operator.NotEq 3) (is_null (here 0 u8)))
-  pub distinct_first : reading scope (test.Distinct (Integer (pos 3)) a) ≡ said (binary operator.Or (a_is operator.NotEq 3) (is_null (here 0 u8)))
-  pub distinct_null : reading scope (test.Distinct a Null) ≡ said (is_not_null (here 0 u8))
-  pub distinct_null_first : reading scope (test.Distinct Null a) ≡ said (is_not_null (here 0 u8))
-  pub distinct_columns : reading scope (test.Distinct a a) ≡ unread
-  pub distinct_nulls : reading scope (test.Distinct Null Null) ≡ known false
-  pub distinct_from_null : reading scope (test.Distinct (Integer (pos 3)) Null) ≡ known true
-  pub null_distinct : reading scope (test.Distinct Null (Integer (pos 3))) ≡ known true
-  pub distinct_numbers : reading scope (test.Distinct (Integer (pos 3)) (Integer (pos 4))) ≡ known true
-  pub distinct_misfit : reading scope (test.Distinct a (Text (codes "x"))) ≡ Err Misfit
-  pub between : reading scope (test.Between a (Integer (pos 3)) (Integer (pos 5))) ≡ said (binary operator.And (a_is operator.Gte 3) (a_is operator.Lte 5))
-  pub between_misfit : reading scope (test.Between a Other (Text (codes "x"))) ≡ Err Misfit
-  pub between_unread : reading scope (test.Between a Other (Integer (pos 5))) ≡ unread
-  pub symmetric : reading scope (test.BetweenSymmetric a (Integer (pos 5)) (Integer (pos 3)))
+  pub truth_column : reading schema (test.Truth b) ≡ said (here 1 (dtype.Bool Nullable))
+  pub no_truth : reading schema (test.Truth a) ≡ Err Misfit
+  pub truth_of_number : reading schema (test.Truth (Integer (pos 1))) ≡ Err Misfit
+  pub literal_truth : reading schema (test.Truth (Truth true)) ≡ known true
+  pub null_truth : reading schema (test.Truth Null) ≡ null
+  pub other_truth : reading schema (test.Truth Other) ≡ unread
+  pub null_test : reading schema (test.IsNull a) ≡ said (is_null (here 0 u8))
+  pub null_of_null : reading schema (test.IsNull Null) ≡ known true
+  pub null_of_number : reading schema (test.IsNull (Integer (pos 3))) ≡ known false
+  pub null_of_other : reading schema (test.IsNull Other) ≡ unread
+  pub distinct : reading schema (test.Distinct a (Integer (pos 3))) ≡ said (binary operator.Or (a_is operator.NotEq 3) (is_null (here 0 u8)))
+  pub distinct_first : reading schema (test.Distinct (Integer (pos 3)) a) ≡ said (binary operator.Or (a_is operator.NotEq 3) (is_null (here 0 u8)))
+  pub distinct_null : reading schema (test.Distinct a Null) ≡ said (is_not_null (here 0 u8))
+  pub distinct_null_first : reading schema (test.Distinct Null a) ≡ said (is_not_null (here 0 u8))
+  pub distinct_columns : reading schema (test.Distinct a a) ≡ unread
+  pub distinct_nulls : reading schema (test.Distinct Null Null) ≡ known false
+  pub distinct_from_null : reading schema (test.Distinct (Integer (pos 3)) Null) ≡ known true
+  pub null_distinct : reading schema (test.Distinct Null (Integer (pos 3))) ≡ known true
+  pub distinct_numbers : reading schema (test.Distinct (Integer (pos 3)) (Integer (pos 4))) ≡ known true
+  pub distinct_misfit : reading schema (test.Distinct a (Text (codes "x"))) ≡ Err Misfit
+  pub between : reading schema (test.Between a (Integer (pos 3)) (Integer (pos 5))) ≡ said (binary operator.And (a_is operator.Gte 3) (a_is operator.Lte 5))
+  pub between_misfit : reading schema (test.Between a Other (Text (codes "x"))) ≡ Err Misfit
+  pub between_unread : reading schema (test.Between a Other (Integer (pos 5))) ≡ unread
+  pub symmetric : reading schema (test.BetweenSymmetric a (Integer (pos 5)) (Integer (pos 3)))
       ≡ said (binary operator.Or (binary operator.And (a_is operator.Gte 5) (a_is operator.Lte 3)) (binary operator.And (a_is operator.Gte 3) (a_is operator.Lte 5)))
-  pub in_one : reading scope (test.In a (Integer (pos 3) ∷ [])) ≡ said (a_is operator.Eq 3)
-  pub in_three : reading scope (test.In a (Integer (pos 3) ∷ Integer (pos 4) ∷ Integer (pos 5) ∷ []))
+  pub in_one : reading schema (test.In a (Integer (pos 3) ∷ [])) ≡ said (a_is operator.Eq 3)
+  pub in_three : reading schema (test.In a (Integer (pos 3) ∷ Integer (pos 4) ∷ Integer (pos 5) ∷ []))
       ≡ said (binary operator.Or (binary operator.Or (a_is operator.Eq 3) (a_is operator.Eq 4)) (a_is operator.Eq 5))
-  pub in_other : reading scope (test.In a (Integer (pos 3) ∷ Other ∷ [])) ≡ unread
-  pub in_misfit : reading scope (test.In a (Other ∷ Text (codes "x") ∷ [])) ≡ Err Misfit
-  pub like_null : reading scope (test.Like s Null escape.Backslash) ≡ null
-  pub like_number : reading scope (test.Like a (Text (codes "x")) escape.Backslash) ≡ Err Misfit
-  pub like_column : reading scope (test.Like s s escape.Backslash) ≡ unread
-  pub like_escaped : reading scope (test.Like s (Text (codes "x")) escape.Nothing) ≡ unread
-  pub other : reading scope test.Other ≡ unread
+  pub in_other : reading schema (test.In a (Integer (pos 3) ∷ Other ∷ [])) ≡ unread
+  pub in_misfit : reading schema (test.In a (Other ∷ Text (codes "x") ∷ [])) ≡ Err Misfit
+  pub like_null : reading schema (test.Like s Null escape.Backslash) ≡ null
+  pub like_number : reading schema (test.Like a (Text (codes "x")) escape.Backslash) ≡ Err Misfit
+  pub like_column : reading schema (test.Like s s escape.Backslash) ≡ unread
+  pub like_escaped : reading schema (test.Like s (Text (codes "x")) escape.Nothing) ≡ unread
+  pub other : reading schema test.Other ≡ unread
 
 -- the order of values
 pub record OrderExamples : Type 0 where
   pub truths : item_cmp (sql.truth false) (sql.truth true) ≡ Some Less
   pub truths_turned : item_cmp (sql.truth true) (sql.truth false) ≡ Some Greater
-  pub numbers : item_cmp (sql.number (negsuc 0)) (sql.number (pos 0)) ≡ Some Less
-  pub number_below_fraction : item_cmp (sql.number (pos 3)) (sql.fraction (pos 3)) ≡ Some Less
-  pub number_above_fraction : item_cmp (sql.number (pos 4)) (sql.fraction (pos 3)) ≡ Some Greater
-  pub below_zero : item_cmp (sql.number (negsuc 3)) (sql.fraction (negsuc 3)) ≡ Some Less
-  pub fraction_below_number : item_cmp (sql.fraction (pos 3)) (sql.number (pos 4)) ≡ Some Less
-  pub fraction_above_number : item_cmp (sql.fraction (pos 3)) (sql.number (pos 3)) ≡ Some Greater
-  pub fractions : item_cmp (sql.fraction (pos 3)) (sql.fraction (pos 4)) ≡ None
+  pub numbers : item_cmp (sql.exact kind.Number (over (negsuc 0) 0)) (sql.exact kind.Number (over (pos 0) 0)) ≡ Some Less
+  pub number_below_fraction : item_cmp (sql.exact kind.Number (over (pos 3) 0)) (sql.exact kind.Number (over (pos 35) 1)) ≡ Some Less
+  pub number_above_fraction : item_cmp (sql.exact kind.Number (over (pos 4) 0)) (sql.exact kind.Number (over (pos 35) 1)) ≡ Some Greater
+  pub below_zero : item_cmp (sql.exact kind.Number (over (negsuc 3) 0)) (sql.exact kind.Number (over (negsuc 34) 1)) ≡ Some Less
+  pub fractions : item_cmp (sql.exact kind.Number (over (pos 35) 1)) (sql.exact kind.Number (over (pos 349) 2)) ≡ Some Greater
+  pub same_fractions : item_cmp (sql.exact kind.Number (over (pos 35) 1)) (sql.exact kind.Number (over (pos 350) 2)) ≡ Some Equal
+  pub clocks : item_cmp (sql.exact kind.Clock (over (pos 1) 0)) (sql.exact kind.Clock (over (pos 2) 0)) ≡ Some Less
+  pub instants : item_cmp (sql.exact kind.Instant (over (pos 1) 0)) (sql.exact kind.Instant (over (pos 2) 0)) ≡ Some Less
+  pub times : item_cmp (sql.exact kind.TimeOfDay (over (pos 1) 0)) (sql.exact kind.TimeOfDay (over (pos 2) 0)) ≡ Some Less
+  pub clock_and_instant : item_cmp (sql.exact kind.Clock (over (pos 1) 0)) (sql.exact kind.Instant (over (pos 1) 0)) ≡ None
+  pub instant_and_clock : item_cmp (sql.exact kind.Instant (over (pos 1) 0)) (sql.exact kind.Clock (over (pos 1) 0)) ≡ None
+  pub clock_and_number : item_cmp (sql.exact kind.Clock (over (pos 1) 0)) (sql.exact kind.Number (over (pos 1) 0)) ≡ None
+  pub number_and_time : item_cmp (sql.exact kind.Number (over (pos 1) 0)) (sql.exact kind.TimeOfDay (over (pos 1) 0)) ≡ None
   pub texts : item_cmp (sql.text (codes "a")) (sql.text (codes "ab")) ≡ Some Less
   pub binaries : item_cmp (sql.binary (2 ∷ [])) (sql.binary (1 ∷ 5 ∷ [])) ≡ Some Greater
-  pub kinds : item_cmp (sql.number (pos 1)) (sql.truth true) ≡ None
+  pub kinds : item_cmp (sql.exact kind.Number (over (pos 1) 0)) (sql.truth true) ≡ None
   pub kinds_turned : item_cmp (sql.text []) (sql.binary []) ≡ None
   pub flipped_gt : flipped Gt ≡ Lt
   pub flipped_gte : flipped Gte ≡ Lte
@@ -194,7 +223,7 @@ abbrev pub row : Option ℕ → List Constant
 row m = record { dtype = u8; value = number_in m } ∷ record { dtype = dtype.Bool Nullable; value = Some (value.Bool false) } ∷ record { dtype = i8; value = Some (value.Primitive (number.I8 (pos 5))) } ∷ record { dtype = dtype.Utf8 Nullable; value = None } ∷ []
 
 abbrev pub truth_at : Option ℕ → Test → Option Bool
-truth_at m t = test_truth scope (row m) t
+truth_at m t = test_truth schema (row m) t
 
 abbrev pub five : Operand
 five = Integer (pos 5)
@@ -211,11 +240,11 @@ pub record TruthExamples : Type 0 where
   pub null_first : truth_at (Some 5) (test.Compare Eq Null a) ≡ None
   pub null_behind : truth_at (Some 5) (test.Compare Eq a Null) ≡ None
   pub other_width : truth_at (Some 5) (test.Compare Eq a c) ≡ Some true
-  pub above_fraction : truth_at (Some 4) (test.Compare Gt a (Fraction (pos 3))) ≡ Some true
-  pub below_fraction : truth_at (Some 3) (test.Compare Gt a (Fraction (pos 3))) ≡ Some false
-  pub fraction_first : truth_at (Some 3) (test.Compare Gt (Fraction (pos 3)) a) ≡ Some true
-  pub no_fraction : truth_at (Some 3) (test.Compare Eq a (Fraction (pos 3))) ≡ Some false
-  pub other_than_fraction : truth_at (Some 3) (test.Compare NotEq a (Fraction (pos 3))) ≡ Some true
+  pub above_fraction : truth_at (Some 4) (test.Compare Gt a (half (pos 35))) ≡ Some true
+  pub below_fraction : truth_at (Some 3) (test.Compare Gt a (half (pos 35))) ≡ Some false
+  pub fraction_first : truth_at (Some 3) (test.Compare Gt (half (pos 35)) a) ≡ Some true
+  pub no_fraction : truth_at (Some 3) (test.Compare Eq a (half (pos 35))) ≡ Some false
+  pub other_than_fraction : truth_at (Some 3) (test.Compare NotEq a (half (pos 35))) ≡ Some true
   pub distinct_values : truth_at (Some 5) (test.Distinct a six) ≡ Some true
   pub distinct_same : truth_at (Some 5) (test.Distinct a five) ≡ Some false
   pub distinct_null : truth_at None (test.Distinct a five) ≡ Some true
@@ -256,3 +285,103 @@ pub record PatternExamples : Type 0 where
   pub backslash_plain : pattern_in (escape.Byte 33) (codes "\\%") ≡ Some (codes "\\\\%")
   pub backslash_marked : pattern_in (escape.Byte 33) (codes "!\\") ≡ Some (codes "\\\\")
   pub none_marks : pattern_in escape.Nothing (codes "\\%!") ≡ Some (codes "\\\\%!")
+
+abbrev pub i32 : DType
+i32 = dtype.Primitive ptype.I32 Nullable
+
+abbrev pub i64 : DType
+i64 = dtype.Primitive ptype.I64 Nullable
+
+-- a day, a timestamp of microseconds without a zone, one of milliseconds with one, and a time of microseconds
+abbrev pub dated : SchemaData
+dated = record {
+  scope = (codes "d", i32) ∷ (codes "t", i64) ∷ (codes "z", i64) ∷ (codes "m", i64) ∷ (codes "n", i64) ∷ [];
+  logical = Some logical.Date ∷ Some (logical.Timestamp unit.Microseconds) ∷ Some (logical.TimestampTz unit.Milliseconds) ∷ Some (logical.Time unit.Microseconds) ∷ [];
+}
+
+abbrev pub d : Operand
+d = Column (codes "d")
+
+abbrev pub t : Operand
+t = Column (codes "t")
+
+abbrev pub z : Operand
+z = Column (codes "z")
+
+abbrev pub m : Operand
+m = Column (codes "m")
+
+abbrev pub n : Operand
+n = Column (codes "n")
+
+abbrev pub i32_is : Operator → ℤ → Tree Place
+i32_is o v = binary o (here 0 i32) (literal (record { dtype = i32; value = Some (value.Primitive (number.I32 v)) }))
+
+abbrev pub i64_is : ℕ → Operator → ℤ → Tree Place
+i64_is i o v = binary o (here i i64) (literal (record { dtype = i64; value = Some (value.Primitive (number.I64 v)) }))
+
+abbrev pub clock : ℤ → ℕ → Operand
+clock = number_of kind.Clock
+
+abbrev pub instant : ℤ → ℕ → Operand
+instant = number_of kind.Instant
+
+-- what is said of comparisons of days, timestamps and times: the second day begins at 86,400 seconds
+pub record TypedReadings : Type 0 where
+  pub day : reading dated (test.Compare Lte d (clock (pos 86_400) 0)) ≡ said (i32_is operator.Lte (pos 1))
+  pub within_day : reading dated (test.Compare Lt d (clock (pos 86_401) 0)) ≡ said (i32_is operator.Lte (pos 1))
+  pub day_first : reading dated (test.Compare Gt (clock (pos 86_400) 0) d) ≡ said (i32_is operator.Lt (pos 1))
+  pub past_days : reading dated (test.Compare Lt d (clock (pos 999_999_999_999_999_999_999_999) 0)) ≡ said (i32_is operator.Lte (pos 2_147_483_647))
+  pub micros : reading dated (test.Compare Gte t (clock (pos 15) 1)) ≡ said (i64_is 1 operator.Gte (pos 1_500_000))
+  pub finer : reading dated (test.Compare Gte t (clock (pos 15_000_001) 7)) ≡ said (i64_is 1 operator.Gt (pos 1_500_000))
+  pub millis : reading dated (test.Compare Eq z (instant (pos 2) 0)) ≡ said (i64_is 2 operator.Eq (pos 2_000))
+  pub clock_of_instant : reading dated (test.Compare Eq z (clock (pos 2) 0)) ≡ unread
+  pub instant_of_clock : reading dated (test.Compare Eq t (instant (pos 2) 0)) ≡ unread
+  pub time : reading dated (test.Compare Gt m (number_of kind.TimeOfDay (pos 1) 0)) ≡ said (i64_is 3 operator.Gt (pos 1_000_000))
+  pub raw_number : reading dated (test.Compare Lt d (Integer (pos 100))) ≡ Err Misfit
+  pub raw_instant : reading dated (test.Compare Lt (Integer (pos 100)) z) ≡ Err Misfit
+  pub number_as_clock : reading dated (test.Compare Lt n (clock (pos 1) 0)) ≡ unread
+  pub two_clocks : reading dated (test.Compare Lt (clock (pos 1) 0) (clock (pos 2) 0)) ≡ unread
+  pub fractions : reading dated (test.Compare Lt (half (pos 5)) (Integer (pos 2))) ≡ unread
+  pub fractions_behind : reading dated (test.Compare Lt (Integer (pos 2)) (half (pos 5))) ≡ unread
+  pub two_types : reading dated (test.Compare Lt t z) ≡ unread
+  pub same_types : reading dated (test.Compare Lt t t) ≡ said (binary operator.Lt (here 1 i64) (here 1 i64))
+  pub raw_column : reading dated (test.Compare Lt t n) ≡ unread
+  pub null_day : reading dated (test.IsNull d) ≡ said (is_null (here 0 i32))
+  pub longest : reading dated (test.Compare Lt n (number_of kind.Number (pos 1) 33)) ≡ said (i64_is 4 operator.Lte (pos 0))
+  pub too_long : reading dated (test.Compare Lt n (number_of kind.Number (pos 1) 34)) ≡ unread
+
+-- a text, and what it is read as
+abbrev pub day_text : List ℕ
+day_text = codes "1970-01-02"
+
+-- a day by its text, which is read as the second day, or isn't
+pub record TextReadings : Type 0 where
+  pub day : date_of day_text ≡ Some (over (pos 86_400) 0) → reading dated (test.Compare Gte d (Text day_text)) ≡ said (i32_is operator.Gte (pos 1))
+  pub day_behind : date_of day_text ≡ Some (over (pos 86_400) 0) → reading dated (test.Compare Gte (Text day_text) d) ≡ said (i32_is operator.Lte (pos 1))
+  pub no_day : date_of day_text ≡ None → reading dated (test.Compare Gte d (Text day_text)) ≡ unread
+  pub days : date_of day_text ≡ Some (over (pos 86_400) 0) → reading dated (test.Between d (Text day_text) (clock (pos 172_800) 0)) ≡ said (binary operator.And (i32_is operator.Gte (pos 1)) (i32_is operator.Lte (pos 2)))
+  pub in_days : date_of day_text ≡ Some (over (pos 86_400) 0) → reading dated (test.In d (Text day_text ∷ [])) ≡ said (i32_is operator.Eq (pos 1))
+  pub distinct : date_of day_text ≡ Some (over (pos 86_400) 0) → reading dated (test.Distinct (Text day_text) d) ≡ said (binary operator.Or (i32_is operator.NotEq (pos 1)) (is_null (here 0 i32)))
+  pub timestamp : timestamp_of day_text ≡ Some (over (pos 86_400_000_000_000) 9) → reading dated (test.Compare Gte t (Text day_text)) ≡ said (i64_is 1 operator.Gte (pos 86_400_000_000))
+  pub instant : instant_of day_text ≡ Some (over (pos 86_400_000_000_000) 9) → reading dated (test.Compare Gte z (Text day_text)) ≡ said (i64_is 2 operator.Gte (pos 86_400_000))
+  pub time : time_of day_text ≡ Some (over (pos 1_000_000_000) 9) → reading dated (test.Compare Gte m (Text day_text)) ≡ said (i64_is 3 operator.Gte (pos 1_000_000))
+
+-- a row of a day
+abbrev pub day_row : ℤ → List Constant
+day_row v = record { dtype = i32; value = Some (value.Primitive (number.I32 v)) } ∷ []
+
+-- what these tests mean
+pub record TypedTruths : Type 0 where
+  pub at_day : test_truth dated (day_row (pos 1)) (test.Compare Eq d (clock (pos 86_400) 0)) ≡ Some true
+  pub before_noon : test_truth dated (day_row (pos 1)) (test.Compare Lt d (clock (pos 129_600) 0)) ≡ Some true
+  pub after_noon : test_truth dated (day_row (pos 2)) (test.Compare Lt d (clock (pos 129_600) 0)) ≡ Some false
+  pub number_beside_day : test_truth dated (day_row (pos 1)) (test.Compare Eq d (Integer (pos 1))) ≡ None
+  pub same_cells : are_same_cells (Some (logical.Timestamp unit.Seconds)) (Some (logical.Timestamp unit.Milliseconds)) ≡ false
+  pub same_zones : are_same_cells (Some (logical.Timestamp unit.Seconds)) (Some (logical.TimestampTz unit.Seconds)) ≡ false
+  pub same_days : are_same_cells (Some logical.Date) (Some logical.Date) ≡ true
+  pub days_and_seconds : are_same_cells (Some logical.Date) (Some (logical.Timestamp unit.Seconds)) ≡ false
+  pub text_beside_text : beside dated (Text (codes "x")) (Text day_text) ≡ Text day_text
+  pub text_beside_number : beside dated n (Text day_text) ≡ Text day_text
+  pub number_beside_column : beside dated d (Integer (pos 1)) ≡ Integer (pos 1)
+  pub text_beside_decimal : (x : DecimalDType) → typed_as (Some (logical.Decimal x)) (Text day_text) ≡ Other

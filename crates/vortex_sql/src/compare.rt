@@ -1,21 +1,26 @@
 //! Comparisons of two operands.
 ghost use Rattle.std.specs.Prelude.{◌≡◌, option_map};
 ghost use Rattle.vortex_sql.specs.Readings as spec;
+ghost use Rattle.vortex_sql.specs.Typing as typing;
 
-use crate::column::{column, find};
+use crate::column::column;
 use crate::comparison::{flipped, operator_of};
 use crate::fault::Fault;
 use crate::found::Found;
 use crate::literal::{constant, literals, said};
-use crate::number::{clamped, fractional};
-use crate::syntax::tree::{Comparison, Operand};
+use crate::number::{range_of, sized, step_of};
+use crate::schema::Schema;
+use crate::syntax::tree::{ExactNumber, Operand};
+use crate::typing::{KindFit, are_same_cells, kind_fit, kind_of, typed_by, typed_or};
 use std::alloc::Global;
 use vortex_base::dtype::DType;
 use vortex_base::scalar_value::ScalarValue;
-use vortex_base::scope::Scope;
 use vortex_base::types::PType;
 use vortex_expr::bound;
 use vortex_expr::bound_expression::BoundExpression;
+use vortex_logical::comparison::Comparison;
+use vortex_logical::exact::Exact;
+use vortex_logical::lower::compare_steps;
 
 fn comparing(
     alloc: Global,
@@ -31,34 +36,45 @@ fn comparing(
     Ok(Some(whole))
 }
 
-fn with_number(
+// Says a comparison with an exact number of what the column's cells count.
+fn with_exact(
     alloc: Global,
     comparison: Comparison,
     found: Found,
     ptype: PType,
-    number: i128,
+    literal: ExactNumber,
 ) -> Result<Option<BoundExpression>, Fault>
-    ensures { spec.Reads (spec.said
-        (spec.with_number comparison (spec.place_of_found found) ptype found.dtype number)) result }
+    ensures { spec.Reads
+        (spec.exact_reading comparison (spec.field_of_found found) ptype found.dtype literal)
+        result }
 {
-    let (comparison, value) = clamped(comparison, ptype, number);
-    let literal = constant(alloc, found.dtype, ScalarValue::Primitive(value))?;
-    comparing(alloc, comparison, found, literal)
+    let Some(exact) = Exact::try_new(literal.top, literal.scale) else {
+        return Ok(None);
+    };
+    let test = compare_steps(step_of(found.logical), range_of(ptype), comparison, exact);
+    let value = ScalarValue::Primitive(sized(ptype, test.number));
+    let literal = constant(alloc, found.dtype, value)?;
+    comparing(alloc, test.comparison, found, literal)
 }
 
-fn with_fraction(
+// Says a comparison with a number of any kind, which misfits a column of another logical kind.
+// Nothing is said where only a server's zone could tell, or where the column has no logical type.
+fn with_kind(
     alloc: Global,
     comparison: Comparison,
     found: Found,
     ptype: PType,
-    below: i128,
+    literal: ExactNumber,
 ) -> Result<Option<BoundExpression>, Fault>
-    ensures { spec.Reads (spec.said (spec.with_fraction comparison (spec.place_of_found found)
-        ptype found.dtype below)) result }
+    ensures { spec.Reads
+        (spec.with_kind comparison (spec.field_of_found found) ptype found.dtype literal)
+        result }
 {
-    let (comparison, value) = fractional(comparison, ptype, below);
-    let literal = constant(alloc, found.dtype, ScalarValue::Primitive(value))?;
-    comparing(alloc, comparison, found, literal)
+    match kind_fit(kind_of(found.logical), literal.kind) {
+        KindFit::Same => with_exact(alloc, comparison, found, ptype, literal),
+        KindFit::Other if found.logical.is_some() => Err(Fault::Misfit),
+        KindFit::ByZone | KindFit::Other => Ok(None),
+    }
 }
 
 fn with_constant(
@@ -82,16 +98,13 @@ pub(crate) fn with_literal(
     operand: &Operand,
 ) -> Result<Option<BoundExpression>, Fault>
     ensures { spec.Reads
-        (spec.with_literal comparison (spec.place_of_found found) found.dtype operand.now) result }
+        (spec.with_literal comparison (spec.field_of_found found) found.dtype operand.now) result }
 {
     match (operand, found.dtype) {
         (Operand::Other, _) => Ok(None),
         (Operand::Null, _) => said(alloc, None),
-        (Operand::Integer(number), DType::Primitive(ptype, _)) => {
-            with_number(alloc, comparison, found, ptype, *number)
-        }
-        (Operand::Fraction(below), DType::Primitive(ptype, _)) => {
-            with_fraction(alloc, comparison, found, ptype, *below)
+        (Operand::Exact(literal), DType::Primitive(ptype, _)) => {
+            with_kind(alloc, comparison, found, ptype, *literal)
         }
         (Operand::Truth(truth), DType::Bool(_)) => {
             with_constant(alloc, comparison, found, ScalarValue::Bool(*truth))
@@ -123,13 +136,15 @@ fn with_place(
     found: Found,
     other: Option<Found>,
 ) -> Result<Option<BoundExpression>, Fault>
-    ensures { spec.Reads (spec.with_place comparison (spec.place_of_found found)
-        (option_map spec.place_of_found other)) result }
+    ensures { spec.Reads (spec.with_place comparison (spec.field_of_found found)
+        (option_map spec.field_of_found other)) result }
 {
     let Some(other) = other else {
         return Ok(None);
     };
-    if found.dtype.eq_ignore_nullability(&other.dtype) {
+    if found.dtype.eq_ignore_nullability(&other.dtype)
+        && are_same_cells(found.logical, other.logical)
+    {
         let right = column(alloc, other)?;
         comparing(alloc, comparison, found, right)
     } else if are_numbers(found.dtype, other.dtype) {
@@ -141,54 +156,71 @@ fn with_place(
 
 fn with_operand(
     alloc: Global,
-    scope: &Scope,
+    schema: &Schema,
     comparison: Comparison,
     found: Found,
     operand: &Operand,
 ) -> Result<Option<BoundExpression>, Fault>
     ensures { spec.Reads
-        (spec.with_operand scope.now comparison (spec.place_of_found found) operand.now) result }
+        (spec.with_operand schema.now comparison (spec.field_of_found found) operand.now) result }
 {
     match operand {
-        Operand::Column(name) => with_place(alloc, comparison, found, find(scope, name)),
+        Operand::Column(name) => with_place(alloc, comparison, found, schema.find(name)),
         _ => with_literal(alloc, comparison, found, operand),
     }
 }
 
 fn from_place(
     alloc: Global,
-    scope: &Scope,
+    schema: &Schema,
     comparison: Comparison,
     found: Option<Found>,
     operand: &Operand,
 ) -> Result<Option<BoundExpression>, Fault>
-    ensures { spec.Reads (spec.from_place scope.now comparison
-        (option_map spec.place_of_found found) operand.now) result }
+    ensures { spec.Reads (spec.from_place schema.now comparison
+        (option_map spec.field_of_found found) operand.now) result }
 {
     match (found, operand) {
-        (Some(found), _) => with_operand(alloc, scope, comparison, found, operand),
+        (Some(found), _) => with_operand(alloc, schema, comparison, found, operand),
         (None, Operand::Null) => said(alloc, None),
         (None, _) => Ok(None),
+    }
+}
+
+// Says a comparison of two operands, of which neither types the other.
+fn compare_typed(
+    alloc: Global,
+    schema: &Schema,
+    comparison: Comparison,
+    left: &Operand,
+    right: &Operand,
+) -> Result<Option<BoundExpression>, Fault>
+    ensures { spec.Reads (spec.compare_typed schema.now comparison left.now right.now) result }
+{
+    match (left, right) {
+        (Operand::Column(name), _) => {
+            from_place(alloc, schema, comparison, schema.find(name), right)
+        }
+        (_, Operand::Column(name)) => {
+            from_place(alloc, schema, flipped(comparison), schema.find(name), left)
+        }
+        _ => literals(alloc, comparison, left, right),
     }
 }
 
 /// Says a comparison of two operands.
 pub(crate) fn compare(
     alloc: Global,
-    scope: &Scope,
+    schema: &Schema,
     comparison: Comparison,
     left: &Operand,
     right: &Operand,
 ) -> Result<Option<BoundExpression>, Fault>
-    ensures { spec.Reads (spec.compare scope.now comparison left.now right.now) result }
+    ensures { spec.Reads (spec.compare schema.now comparison left.now right.now) result }
 {
-    match (left, right) {
-        (Operand::Column(name), _) => {
-            from_place(alloc, scope, comparison, find(scope, name), right)
-        }
-        (_, Operand::Column(name)) => {
-            from_place(alloc, scope, flipped(comparison), find(scope, name), left)
-        }
-        _ => literals(alloc, comparison, left, right),
-    }
+    let typed_left = typed_by(schema, right, left);
+    let typed_right = typed_by(schema, left, right);
+    let left = typed_or(&typed_left, left);
+    let right = typed_or(&typed_right, right);
+    compare_typed(alloc, schema, comparison, left, right)
 }

@@ -2,11 +2,10 @@
 ghost use Rattle.std.specs.Prelude.{◌≡◌};
 ghost use Rattle.vortex_expr.specs.Meanings.Meaning as meaning;
 ghost use Rattle.vortex_sql.specs.Sql as spec;
-ghost use Rattle.vortex_sql.specs.Numbers as numbers;
 
-use crate::syntax::tree::Comparison;
 use std::cmp::Ordering;
 use vortex_expr::scalar_fn::Operator;
+use vortex_logical::comparison::Comparison;
 
 /// Returns the operator of expressions.
 pub(crate) fn operator_of(comparison: Comparison) -> Operator
@@ -47,25 +46,5 @@ pub(crate) fn holds(comparison: Comparison, order: Ordering) -> bool
         Comparison::Gte => !matches!(order, Ordering::Less),
         Comparison::Lt => matches!(order, Ordering::Less),
         Comparison::Lte => !matches!(order, Ordering::Greater),
-    }
-}
-
-/// Returns the comparison with the least number of a type, for one with a number below it.
-pub(crate) fn with_least(comparison: Comparison) -> Comparison
-    ensures { result ≡ numbers.with_least comparison }
-{
-    match comparison {
-        Comparison::Eq | Comparison::Lt | Comparison::Lte => Comparison::Lt,
-        Comparison::NotEq | Comparison::Gt | Comparison::Gte => Comparison::Gte,
-    }
-}
-
-/// Returns the comparison with the greatest number of a type, for one with a number above it.
-pub(crate) fn with_greatest(comparison: Comparison) -> Comparison
-    ensures { result ≡ numbers.with_greatest comparison }
-{
-    match comparison {
-        Comparison::Eq | Comparison::Gt | Comparison::Gte => Comparison::Gt,
-        Comparison::NotEq | Comparison::Lt | Comparison::Lte => Comparison::Lte,
     }
 }

@@ -6,12 +6,14 @@ ghost use Rattle.vortex_expr.specs.Meanings.Fitting.{fits_scope};
 ghost use Rattle.vortex_expr.specs.Trees.Tree.{is_plain};
 ghost use Rattle.vortex_sql.specs.Lowering as spec;
 ghost use Rattle.vortex_sql.specs.Readings.{bool_or_null};
-ghost use Rattle.vortex_sql.specs.Refusals.{IsOfName, IsTextRefusal, misfits};
+ghost use Rattle.vortex_sql.specs.Refusals.{IsOfName, IsSchemaRefusal, IsTextRefusal, misfits};
 ghost use Rattle.vortex_sql.specs.Parsing.Joining.{Joins, ands};
+ghost use Rattle.vortex_sql.specs.Parsing.Naming.{AreNamed};
 ghost use Rattle.vortex_sql.specs.Parsing.Places.{Ascends, leaves};
 
 use crate::error::SqlError;
 use crate::lower::{Said, lower};
+use crate::schema::Schema;
 use crate::syntax::parse::{Names, parse};
 use crate::syntax::tree::Condition;
 use std::alloc::Global;
@@ -118,32 +120,29 @@ fn is_fit(predicate: &BoundExpression, scope: &Scope) -> bool
     is_bool && predicate.is_plain() && predicate.fits_scope(scope)
 }
 
-/// Returns the predicate that the text of a condition is over the columns of a scope, with names of
-/// one or of several parts as `names` says.
-pub fn condition_by(
+/// Returns the predicate that a condition is over the columns of a schema. The text that it was
+/// read from names the columns of the leaves that aren't read.
+pub fn over_schema(
     alloc: Global,
     text: &str,
-    scope: &Scope,
-    names: Names,
+    condition: Condition,
+    schema: &Schema,
 ) -> Result<Predicate, SqlError>
-    ensures says { IfOk result (λ p. spec.Says scope.now p.condition p.predicate) }
-    ensures places { IfOk result (λ p. Ascends 0 (leaves p.condition) (length text.now)) }
-    ensures joined { IfOk result (λ p.
-        Joins text.now 0 (leaves p.condition) (false ∷ ands p.condition)) }
+    ensures same { IfOk result (λ p. p.condition ≡ condition) }
+    ensures says { IfOk result (λ p. spec.Says schema.now p.condition p.predicate) }
     ensures opaque { IfOk result (λ p.
-        p.opaque.items ≡ map spec.span_of (spec.opaques scope.now p.condition)) }
-    ensures typed { IfOk result (λ p. misfits scope.now p.condition ≡ []) }
-    ensures scope { IfOk result (λ p. (more : List Named) × (p.scope ≡ scope.now ++ more)
+        p.opaque.items ≡ map spec.span_of (spec.opaques schema.now p.condition)) }
+    ensures typed { IfOk result (λ p. misfits schema.now p.condition ≡ []) }
+    ensures scope { IfOk result (λ p. (more : List Named) × (p.scope ≡ schema.now.scope ++ more)
         × (spec.types_of more ≡ map (λ span. bool_or_null) p.opaque.items)) }
     ensures fits { IfOk result (λ p. IsTrue (fits_scope p.predicate p.scope)) }
     ensures plain { IfOk result (λ p. IsTrue (is_plain p.predicate)) }
     ensures bool { IfOk result (λ p. IsTrue (spec.is_of_bool p.predicate)) }
-    // A refusal has a place in the text; a misfit is the first of the condition that was read.
-    ensures refused { IfErr result (IsTextRefusal text.now scope.now) }
+    // A misfit is the first of the condition.
+    ensures refused { IfErr result (IsSchemaRefusal schema.now condition) }
 {
-    let condition = parse(alloc, text, names)?;
-    let Said { predicate, opaque } = lower(alloc, scope, &condition)?;
-    let scope = widened(alloc, text, scope, &opaque)?;
+    let Said { predicate, opaque } = lower(alloc, schema, &condition)?;
+    let scope = widened(alloc, text, schema.scope(), &opaque)?;
     if !is_fit(&predicate, &scope) {
         return Err(SqlError::Name);
     }
@@ -155,23 +154,32 @@ pub fn condition_by(
     })
 }
 
-/// Returns the predicate that the text of a condition is over the columns of a scope. A name with a
-/// dot in it isn't read.
-pub fn condition(alloc: Global, text: &str, scope: &Scope) -> Result<Predicate, SqlError>
-    ensures says { IfOk result (λ p. spec.Says scope.now p.condition p.predicate) }
+/// Returns the predicate that the text of a condition is over the columns of a schema, with names
+/// of one or of several parts as `names` says.
+pub fn condition(
+    alloc: Global,
+    text: &str,
+    schema: &Schema,
+    names: Names,
+) -> Result<Predicate, SqlError>
+    // A name of several parts is the column of its last part where that is wanted, and else isn't
+    // read.
+    ensures named { IfOk result (λ p. AreNamed text.now names p.condition) }
+    ensures says { IfOk result (λ p. spec.Says schema.now p.condition p.predicate) }
     ensures places { IfOk result (λ p. Ascends 0 (leaves p.condition) (length text.now)) }
     ensures joined { IfOk result (λ p.
         Joins text.now 0 (leaves p.condition) (false ∷ ands p.condition)) }
     ensures opaque { IfOk result (λ p.
-        p.opaque.items ≡ map spec.span_of (spec.opaques scope.now p.condition)) }
-    ensures typed { IfOk result (λ p. misfits scope.now p.condition ≡ []) }
-    ensures scope { IfOk result (λ p. (more : List Named) × (p.scope ≡ scope.now ++ more)
+        p.opaque.items ≡ map spec.span_of (spec.opaques schema.now p.condition)) }
+    ensures typed { IfOk result (λ p. misfits schema.now p.condition ≡ []) }
+    ensures scope { IfOk result (λ p. (more : List Named) × (p.scope ≡ schema.now.scope ++ more)
         × (spec.types_of more ≡ map (λ span. bool_or_null) p.opaque.items)) }
     ensures fits { IfOk result (λ p. IsTrue (fits_scope p.predicate p.scope)) }
     ensures plain { IfOk result (λ p. IsTrue (is_plain p.predicate)) }
     ensures bool { IfOk result (λ p. IsTrue (spec.is_of_bool p.predicate)) }
     // A refusal has a place in the text; a misfit is the first of the condition that was read.
-    ensures refused { IfErr result (IsTextRefusal text.now scope.now) }
+    ensures refused { IfErr result (IsTextRefusal text.now schema.now) }
 {
-    condition_by(alloc, text, scope, Names::Plain)
+    let condition = parse(alloc, text, names)?;
+    over_schema(alloc, text, condition, schema)
 }

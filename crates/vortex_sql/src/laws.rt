@@ -2,7 +2,8 @@
 //! contracts.
 ghost use Rattle.vortex_sql.specs.Pruning.{ConfirmsCondition, RefutesCondition};
 ghost use Rattle.vortex_sql.specs.Worked.{OrderExamples, OtherReadings, PatternExamples};
-ghost use Rattle.vortex_sql.specs.Worked.{ReadingExamples, TruthExamples};
+ghost use Rattle.vortex_sql.specs.Worked.{ReadingExamples, TextReadings, TruthExamples};
+ghost use Rattle.vortex_sql.specs.Worked.{TypedReadings, TypedTruths};
 
 /// Where no row of a zone satisfies the predicate of a condition, whatever stands in the columns of
 /// the leaves that aren't read, none satisfies the condition.
@@ -23,4 +24,7 @@ pub fn examples_hold()
     ensures orders { OrderExamples }
     ensures patterns { PatternExamples }
     ensures truths { TruthExamples }
+    ensures typed { TypedReadings }
+    ensures typed_texts { TextReadings }
+    ensures typed_truths { TypedTruths }
 {}

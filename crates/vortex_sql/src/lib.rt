@@ -1,4 +1,4 @@
-//! Lowers conditions of SQL to predicates over a scope.
+//! Lowers conditions of SQL to predicates over the columns of a schema.
 //!
 //! A part of a condition that the pruner has no words for becomes a column of its own, of which
 //! nothing has to be known.
@@ -17,4 +17,6 @@ mod literal;
 pub mod lower;
 mod number;
 mod reading;
+pub mod schema;
 pub mod syntax;
+pub mod typing;

@@ -5,7 +5,8 @@ ghost use Rattle.vortex_sql.specs.Sql as sql;
 
 use crate::comparison::holds;
 use crate::fault::Fault;
-use crate::syntax::tree::{Comparison, Operand};
+use crate::syntax::tree::{ExactNumber, Operand};
+use crate::typing::{KindFit, kind_fit};
 use std::alloc::Global;
 use std::cmp::Ordering;
 use vortex_base::dtype::DType;
@@ -14,6 +15,8 @@ use vortex_base::scalar_value::ScalarValue;
 use vortex_base::types::Nullability;
 use vortex_expr::bound;
 use vortex_expr::bound_expression::BoundExpression;
+use vortex_logical::comparison::Comparison;
+use vortex_logical::logical_type::ExactKind;
 
 /// Returns a value of a type as an expression.
 pub(crate) fn constant(
@@ -56,13 +59,31 @@ fn truth_cmp(left: bool, right: bool) -> Ordering
     }
 }
 
+// Tells whether a literal is a whole number.
+fn is_whole(number: ExactNumber) -> bool
+    ensures { result ≡ spec.is_whole number }
+{
+    matches!(kind_fit(number.kind, ExactKind::Number), KindFit::Same) && number.scale == 0
+}
+
+// Returns the order of two whole numbers.
+fn exact_order(left: ExactNumber, right: ExactNumber) -> Option<Ordering>
+    ensures { result ≡ spec.literal_order (spec.whole_literal left (spec.is_whole left))
+        (spec.whole_literal right (spec.is_whole right)) }
+{
+    if is_whole(left) && is_whole(right) {
+        return Some(left.top.cmp(&right.top));
+    }
+    None
+}
+
 // Returns the order of two literals of one kind.
 fn order_of(left: &Operand, right: &Operand) -> Option<Ordering>
     ensures { result ≡ spec.literal_order (spec.literal_of left.now) (spec.literal_of right.now) }
 {
     match (left, right) {
         (Operand::Truth(left), Operand::Truth(right)) => Some(truth_cmp(*left, *right)),
-        (Operand::Integer(left), Operand::Integer(right)) => Some(left.cmp(right)),
+        (Operand::Exact(left), Operand::Exact(right)) => exact_order(*left, *right),
         (Operand::Text(left), Operand::Text(right)) => Some(left.cmp(right)),
         (Operand::Binary(left), Operand::Binary(right)) => Some(left.cmp(right)),
         _ => None,
@@ -74,9 +95,10 @@ pub(crate) fn has_value(operand: &Operand) -> Option<bool>
     ensures { result ≡ spec.has_value (spec.literal_of operand.now) }
 {
     match operand {
-        Operand::Column(_) | Operand::Fraction(_) | Operand::Other => None,
+        Operand::Column(_) | Operand::Other => None,
+        Operand::Exact(number) if !is_whole(*number) => None,
         Operand::Null => Some(false),
-        Operand::Truth(_) | Operand::Integer(_) | Operand::Text(_) | Operand::Binary(_) => {
+        Operand::Truth(_) | Operand::Exact(_) | Operand::Text(_) | Operand::Binary(_) => {
             Some(true)
         }
     }

@@ -7,11 +7,11 @@ ghost use Rattle.vortex_sql.specs.Refusals as refusals;
 use crate::fault::Fault;
 use crate::literal::truth_literal;
 use crate::reading::reading;
+use crate::schema::Schema;
 use crate::syntax::tree::{Condition, Leaf};
 use std::alloc::{AllocError, AllocFailed, Global};
 use vortex_base::dtype::DType;
 use vortex_base::error::BaseError;
-use vortex_base::scope::Scope;
 use vortex_base::types::Nullability;
 use vortex_expr::bound;
 use vortex_expr::bound_expression::BoundExpression;
@@ -91,21 +91,21 @@ fn opaque_leaf(
 
 fn lowered_leaf(
     alloc: Global,
-    scope: &Scope,
+    schema: &Schema,
     leaf: &Leaf,
     first: usize,
     opaque: &mut Places,
 ) -> Result<BoundExpression, LowerError>
     ensures tree { IfOk result (λ e. e ≡ spec.leaf_tree (first + length opaque.old.items)
-        (readings.reading scope.now leaf.now.test)) }
+        (readings.reading schema.now leaf.now.test)) }
     ensures opaque { IfOk result (λ _. opaque.new.items ≡ opaque.old.items
-        ++ map spec.span_of (spec.opaque_if (readings.reading scope.now leaf.now.test) leaf.now)) }
+        ++ map spec.span_of (spec.opaque_if (readings.reading schema.now leaf.now.test) leaf.now)) }
     ensures typed { IfOk result (λ _.
-        refusals.misfit_if (readings.reading scope.now leaf.now.test) leaf.now ≡ []) }
+        refusals.misfit_if (readings.reading schema.now leaf.now.test) leaf.now ≡ []) }
     ensures refused { MatchResult result (λ _. Unit {0}) (λ f. refusals.IsRefusal
-        (refusals.misfit_if (readings.reading scope.now leaf.now.test) leaf.now) f) }
+        (refusals.misfit_if (readings.reading schema.now leaf.now.test) leaf.now) f) }
 {
-    match reading(alloc, scope, &leaf.test) {
+    match reading(alloc, schema, &leaf.test) {
         Ok(Some(said)) => Ok(said),
         Ok(None) => opaque_leaf(alloc, leaf, first, opaque),
         Err(Fault::Memory) => Err(LowerError::Memory),
@@ -159,47 +159,47 @@ fn is_false(alloc: Global, once: bool, x: BoundExpression) -> Result<BoundExpres
 #[tactic(auto, using(crate::proofs::Refusing::parts))]
 fn lowered(
     alloc: Global,
-    scope: &Scope,
+    schema: &Schema,
     condition: &Condition,
     first: usize,
     opaque: &mut Places,
 ) -> Result<BoundExpression, LowerError>
     ensures tree { IfOk result (λ e.
-        e ≡ spec.lowered scope.now (first + length opaque.old.items) condition.now) }
+        e ≡ spec.lowered schema.now (first + length opaque.old.items) condition.now) }
     ensures opaque { IfOk result (λ _. opaque.new.items
-        ≡ opaque.old.items ++ map spec.span_of (spec.opaques scope.now condition.now)) }
-    ensures typed { IfOk result (λ _. refusals.misfits scope.now condition.now ≡ []) }
+        ≡ opaque.old.items ++ map spec.span_of (spec.opaques schema.now condition.now)) }
+    ensures typed { IfOk result (λ _. refusals.misfits schema.now condition.now ≡ []) }
     ensures refused { MatchResult result (λ _. Unit {0}) (λ f.
-        refusals.IsRefusal (refusals.misfits scope.now condition.now) f) }
+        refusals.IsRefusal (refusals.misfits schema.now condition.now) f) }
 {
     match condition {
-        Condition::Leaf(leaf) => lowered_leaf(alloc, scope, leaf, first, opaque),
+        Condition::Leaf(leaf) => lowered_leaf(alloc, schema, leaf, first, opaque),
         Condition::Not(x) => {
-            let x = lowered(alloc, scope, x, first, opaque)?;
+            let x = lowered(alloc, schema, x, first, opaque)?;
             Ok(bound::not(alloc, x)?)
         }
         Condition::And(left, right) => {
-            let left = lowered(alloc, scope, left, first, opaque)?;
-            let right = lowered(alloc, scope, right, first, opaque)?;
+            let left = lowered(alloc, schema, left, first, opaque)?;
+            let right = lowered(alloc, schema, right, first, opaque)?;
             Ok(bound::and(alloc, left, right)?)
         }
         Condition::Or(left, right) => {
-            let left = lowered(alloc, scope, left, first, opaque)?;
-            let right = lowered(alloc, scope, right, first, opaque)?;
+            let left = lowered(alloc, schema, left, first, opaque)?;
+            let right = lowered(alloc, schema, right, first, opaque)?;
             Ok(bound::or(alloc, left, right)?)
         }
         Condition::IsNull(x) => {
-            let x = lowered(alloc, scope, x, first, opaque)?;
+            let x = lowered(alloc, schema, x, first, opaque)?;
             Ok(bound::is_null(alloc, x)?)
         }
         Condition::IsTrue(x) => {
             let once = has_truth_test(x);
-            let x = lowered(alloc, scope, x, first, opaque)?;
+            let x = lowered(alloc, schema, x, first, opaque)?;
             is_true(alloc, once, x)
         }
         Condition::IsFalse(x) => {
             let once = has_truth_test(x);
-            let x = lowered(alloc, scope, x, first, opaque)?;
+            let x = lowered(alloc, schema, x, first, opaque)?;
             is_false(alloc, once, x)
         }
     }
@@ -213,17 +213,17 @@ pub struct Said {
     pub opaque: Places,
 }
 
-/// Returns the expression of a condition over a scope. `Misfit` names the first leaf of which the
+/// Returns the expression of a condition over the columns of a schema. `Misfit` names the first leaf of which the
 /// types of the operands don't fit, and never comes where there is none.
-pub fn lower(alloc: Global, scope: &Scope, condition: &Condition) -> Result<Said, LowerError>
-    ensures says { IfOk result (λ r. spec.Says scope.now condition.now r.predicate) }
+pub fn lower(alloc: Global, schema: &Schema, condition: &Condition) -> Result<Said, LowerError>
+    ensures says { IfOk result (λ r. spec.Says schema.now condition.now r.predicate) }
     ensures opaque { IfOk result (λ r.
-        r.opaque.items ≡ map spec.span_of (spec.opaques scope.now condition.now)) }
-    ensures typed { IfOk result (λ _. refusals.misfits scope.now condition.now ≡ []) }
+        r.opaque.items ≡ map spec.span_of (spec.opaques schema.now condition.now)) }
+    ensures typed { IfOk result (λ _. refusals.misfits schema.now condition.now ≡ []) }
     ensures refused { MatchResult result (λ _. Unit {0}) (λ f.
-        refusals.IsRefusal (refusals.misfits scope.now condition.now) f) }
+        refusals.IsRefusal (refusals.misfits schema.now condition.now) f) }
 {
     let mut opaque = Vec::new(alloc);
-    let predicate = lowered(alloc, scope, condition, scope.len(), &mut opaque)?;
+    let predicate = lowered(alloc, schema, condition, schema.scope().len(), &mut opaque)?;
     Ok(Said { predicate, opaque })
 }

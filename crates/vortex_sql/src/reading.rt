@@ -3,22 +3,24 @@ ghost use Rattle.std.specs.Prelude.{◌≡◌, [], MatchResult, option_map};
 ghost use Rattle.vortex_sql.specs.declared.fault.Fault.TheVariants.{Memory, Misfit};
 ghost use Rattle.vortex_sql.specs.Readings as spec;
 
-use crate::column::{column, find};
+use crate::column::column;
 use crate::compare::{compare, with_literal};
 use crate::fault::Fault;
 use crate::found::Found;
 use crate::halves::joined;
 use crate::literal::{constant, distinct_literals, has_value, said};
-use crate::syntax::tree::{Comparison, Escape, Operand, Test};
+use crate::schema::Schema;
+use crate::syntax::tree::{Escape, Operand, Test};
+use crate::typing::{typed_by, typed_or};
 use std::alloc::Global;
 use vortex_base::dtype::DType;
 use vortex_base::scalar_value::ScalarValue;
-use vortex_base::scope::Scope;
 use vortex_base::text::Text;
 use vortex_base::types::Nullability;
 use vortex_expr::bound;
 use vortex_expr::bound_expression::BoundExpression;
 use vortex_expr::scalar_fn::Operator;
+use vortex_logical::comparison::Comparison;
 
 // Joins two parts, if both are said.
 fn joined_by(
@@ -36,7 +38,7 @@ fn joined_by(
 }
 
 fn as_truth(alloc: Global, found: Option<Found>) -> Result<Option<BoundExpression>, Fault>
-    ensures { spec.Reads (spec.as_truth (option_map spec.place_of_found found)) result }
+    ensures { spec.Reads (spec.as_truth (option_map spec.field_of_found found)) result }
 {
     match found {
         None => Ok(None),
@@ -47,11 +49,15 @@ fn as_truth(alloc: Global, found: Option<Found>) -> Result<Option<BoundExpressio
     }
 }
 
-fn truth(alloc: Global, scope: &Scope, operand: &Operand) -> Result<Option<BoundExpression>, Fault>
-    ensures { spec.Reads (spec.truth scope.now operand.now) result }
+fn truth(
+    alloc: Global,
+    schema: &Schema,
+    operand: &Operand,
+) -> Result<Option<BoundExpression>, Fault>
+    ensures { spec.Reads (spec.truth schema.now operand.now) result }
 {
     match operand {
-        Operand::Column(name) => as_truth(alloc, find(scope, name)),
+        Operand::Column(name) => as_truth(alloc, schema.find(name)),
         Operand::Null => said(alloc, None),
         Operand::Truth(truth) => said(alloc, Some(*truth)),
         Operand::Other => Ok(None),
@@ -60,7 +66,7 @@ fn truth(alloc: Global, scope: &Scope, operand: &Operand) -> Result<Option<Bound
 }
 
 fn as_null_test(alloc: Global, found: Option<Found>) -> Result<Option<BoundExpression>, Fault>
-    ensures { spec.Reads (spec.as_null_test (option_map spec.place_of_found found)) result }
+    ensures { spec.Reads (spec.as_null_test (option_map spec.field_of_found found)) result }
 {
     match found {
         None => Ok(None),
@@ -70,13 +76,13 @@ fn as_null_test(alloc: Global, found: Option<Found>) -> Result<Option<BoundExpre
 
 fn null_test(
     alloc: Global,
-    scope: &Scope,
+    schema: &Schema,
     operand: &Operand,
 ) -> Result<Option<BoundExpression>, Fault>
-    ensures { spec.Reads (spec.null_test scope.now operand.now) result }
+    ensures { spec.Reads (spec.null_test schema.now operand.now) result }
 {
     if let Operand::Column(name) = operand {
-        return as_null_test(alloc, find(scope, name));
+        return as_null_test(alloc, schema.find(name));
     }
     match has_value(operand) {
         None => Ok(None),
@@ -89,7 +95,7 @@ fn distinct_from(
     found: Found,
     operand: &Operand,
 ) -> Result<Option<BoundExpression>, Fault>
-    ensures { spec.Reads (spec.distinct_from (spec.place_of_found found) operand.now) result }
+    ensures { spec.Reads (spec.distinct_from (spec.field_of_found found) operand.now) result }
 {
     match operand {
         Operand::Column(_) => Ok(None),
@@ -108,7 +114,7 @@ fn distinct_at(
     operand: &Operand,
 ) -> Result<Option<BoundExpression>, Fault>
     ensures { spec.Reads
-        (spec.distinct_at (option_map spec.place_of_found found) operand.now) result }
+        (spec.distinct_at (option_map spec.field_of_found found) operand.now) result }
 {
     match found {
         Some(found) => distinct_from(alloc, found, operand),
@@ -116,46 +122,62 @@ fn distinct_at(
     }
 }
 
-fn distinct(
+// Says whether two operands, of which neither types the other, are distinct.
+fn distinct_typed(
     alloc: Global,
-    scope: &Scope,
+    schema: &Schema,
     left: &Operand,
     right: &Operand,
 ) -> Result<Option<BoundExpression>, Fault>
-    ensures { spec.Reads (spec.distinct_test scope.now left.now right.now) result }
+    ensures { spec.Reads (spec.distinct_typed schema.now left.now right.now) result }
 {
     match (left, right) {
-        (Operand::Column(name), _) => distinct_at(alloc, find(scope, name), right),
-        (_, Operand::Column(name)) => distinct_at(alloc, find(scope, name), left),
+        (Operand::Column(name), _) => distinct_at(alloc, schema.find(name), right),
+        (_, Operand::Column(name)) => distinct_at(alloc, schema.find(name), left),
         _ => distinct_literals(alloc, left, right),
     }
 }
 
+fn distinct(
+    alloc: Global,
+    schema: &Schema,
+    left: &Operand,
+    right: &Operand,
+) -> Result<Option<BoundExpression>, Fault>
+    ensures { spec.Reads (spec.distinct_test schema.now left.now right.now) result }
+{
+    let typed_left = typed_by(schema, right, left);
+    let typed_right = typed_by(schema, left, right);
+    let left = typed_or(&typed_left, left);
+    let right = typed_or(&typed_right, right);
+    distinct_typed(alloc, schema, left, right)
+}
+
 fn between(
     alloc: Global,
-    scope: &Scope,
+    schema: &Schema,
     x: &Operand,
     lower: &Operand,
     upper: &Operand,
 ) -> Result<Option<BoundExpression>, Fault>
-    ensures { spec.Reads (spec.between_test scope.now x.now lower.now upper.now) result }
+    ensures { spec.Reads (spec.between_test schema.now x.now lower.now upper.now) result }
 {
-    let left = compare(alloc, scope, Comparison::Gte, x, lower)?;
-    let right = compare(alloc, scope, Comparison::Lte, x, upper)?;
+    let left = compare(alloc, schema, Comparison::Gte, x, lower)?;
+    let right = compare(alloc, schema, Comparison::Lte, x, upper)?;
     joined_by(alloc, Operator::And, left, right)
 }
 
 fn between_symmetric(
     alloc: Global,
-    scope: &Scope,
+    schema: &Schema,
     x: &Operand,
     lower: &Operand,
     upper: &Operand,
 ) -> Result<Option<BoundExpression>, Fault>
-    ensures { spec.Reads (spec.symmetric_test scope.now x.now lower.now upper.now) result }
+    ensures { spec.Reads (spec.symmetric_test schema.now x.now lower.now upper.now) result }
 {
-    let left = between(alloc, scope, x, lower, upper)?;
-    let right = between(alloc, scope, x, upper, lower)?;
+    let left = between(alloc, schema, x, lower, upper)?;
+    let right = between(alloc, schema, x, upper, lower)?;
     joined_by(alloc, Operator::Or, left, right)
 }
 
@@ -177,15 +199,15 @@ fn with_member(before: Members, next: Option<BoundExpression>) -> Result<Members
     }
 }
 
-fn members(alloc: Global, scope: &Scope, x: &Operand, among: &[Operand]) -> Result<Members, Fault>
+fn members(alloc: Global, schema: &Schema, x: &Operand, among: &[Operand]) -> Result<Members, Fault>
     ensures { MatchResult result
         (λ w. Ok (option_map (λ v. v.items) w)
-        ≡ spec.members_from scope.now x.now (Ok (Some [])) among.now)
-        (λ f. f ≡ Misfit → Err f ≡ spec.members_from scope.now x.now (Ok (Some [])) among.now) }
+        ≡ spec.members_from schema.now x.now (Ok (Some [])) among.now)
+        (λ f. f ≡ Misfit → Err f ≡ spec.members_from schema.now x.now (Ok (Some [])) among.now) }
 {
     let mut members = Some(Vec::new(alloc));
     for y in among {
-        match compare(alloc, scope, Comparison::Eq, x, y) {
+        match compare(alloc, schema, Comparison::Eq, x, y) {
             Ok(next) => members = with_member(members, next)?,
             Err(e) => return Err(e),
         }
@@ -204,13 +226,13 @@ fn any_of(alloc: Global, members: Members) -> Result<Option<BoundExpression>, Fa
 
 fn member(
     alloc: Global,
-    scope: &Scope,
+    schema: &Schema,
     x: &Operand,
     among: &[Operand],
 ) -> Result<Option<BoundExpression>, Fault>
-    ensures { spec.Reads (spec.member scope.now x.now among.now) result }
+    ensures { spec.Reads (spec.member schema.now x.now among.now) result }
 {
-    any_of(alloc, members(alloc, scope, x, among)?)
+    any_of(alloc, members(alloc, schema, x, among)?)
 }
 
 fn like_place(
@@ -219,7 +241,7 @@ fn like_place(
     pattern: &Text,
 ) -> Result<Option<BoundExpression>, Fault>
     ensures { spec.Reads
-        (spec.like_place (option_map spec.place_of_found found) pattern.now) result }
+        (spec.like_place (option_map spec.field_of_found found) pattern.now) result }
 {
     let Some(found) = found else {
         return Ok(None);
@@ -235,15 +257,15 @@ fn like_place(
 
 fn pattern_test(
     alloc: Global,
-    scope: &Scope,
+    schema: &Schema,
     text: &Operand,
     pattern: &Operand,
 ) -> Result<Option<BoundExpression>, Fault>
-    ensures { spec.Reads (spec.pattern_test scope.now text.now pattern.now) result }
+    ensures { spec.Reads (spec.pattern_test schema.now text.now pattern.now) result }
 {
     match (text, pattern) {
         (Operand::Column(name), Operand::Text(pattern)) => {
-            like_place(alloc, find(scope, name), pattern)
+            like_place(alloc, schema.find(name), pattern)
         }
         (_, Operand::Null) => said(alloc, None),
         _ => Ok(None),
@@ -253,22 +275,22 @@ fn pattern_test(
 /// Returns what is said of a test: an expression, or nothing where the pruner has no words for it.
 pub(crate) fn reading(
     alloc: Global,
-    scope: &Scope,
+    schema: &Schema,
     test: &Test,
 ) -> Result<Option<BoundExpression>, Fault>
-    ensures { spec.Reads (spec.reading scope.now test.now) result }
+    ensures { spec.Reads (spec.reading schema.now test.now) result }
 {
     match test {
-        Test::Truth(x) => truth(alloc, scope, x),
-        Test::Compare(comparison, left, right) => compare(alloc, scope, *comparison, left, right),
-        Test::Distinct(left, right) => distinct(alloc, scope, left, right),
-        Test::IsNull(x) => null_test(alloc, scope, x),
-        Test::Between(x, lower, upper) => between(alloc, scope, x, lower, upper),
+        Test::Truth(x) => truth(alloc, schema, x),
+        Test::Compare(comparison, left, right) => compare(alloc, schema, *comparison, left, right),
+        Test::Distinct(left, right) => distinct(alloc, schema, left, right),
+        Test::IsNull(x) => null_test(alloc, schema, x),
+        Test::Between(x, lower, upper) => between(alloc, schema, x, lower, upper),
         Test::BetweenSymmetric(x, lower, upper) => {
-            between_symmetric(alloc, scope, x, lower, upper)
+            between_symmetric(alloc, schema, x, lower, upper)
         }
-        Test::In(x, among) => member(alloc, scope, x, among.as_slice()),
-        Test::Like(text, pattern, Escape::Backslash) => pattern_test(alloc, scope, text, pattern),
+        Test::In(x, among) => member(alloc, schema, x, among.as_slice()),
+        Test::Like(text, pattern, Escape::Backslash) => pattern_test(alloc, schema, text, pattern),
         Test::Like(_, _, _) | Test::Other => Ok(None),
     }
 }

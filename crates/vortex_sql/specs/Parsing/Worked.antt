@@ -2,9 +2,10 @@
 use Rattle.std.specs.Prelude.{◌≡◌, true, false, Some, None, [], codes, pos}
 use Rattle.vortex_sql.specs.Parsing.Naming.{IsTestNamed, back, before, begins_comparison, begins_word, behind, ends_comparison, front, last_part}
 use Rattle.vortex_sql.specs.declared.syntax.cursor.Names.TheVariants.{Last, Plain}
-use Rattle.vortex_sql.specs.declared.syntax.tree.Comparison.TheVariants.{Eq}
+use Rattle.vortex_logical.specs.declared.comparison.Comparison.TheVariants.{Eq}
+use Rattle.vortex_logical.specs.declared.logical_type.ExactKind.TheVariants.{Number}
 use Rattle.vortex_sql.specs.declared.syntax.tree.Operand.{Operand}
-use Rattle.vortex_sql.specs.declared.syntax.tree.Operand.TheVariants.{Column, Integer, Null, Other}
+use Rattle.vortex_sql.specs.declared.syntax.tree.Operand.TheVariants.{Column, Exact, Null, Other}
 use Rattle.vortex_sql.specs.declared.syntax.tree.Test.{Test}
 use Rattle.vortex_sql.specs.declared.syntax.tree.Test.TheVariants as test
 
@@ -57,11 +58,14 @@ a = Column (codes "a")
 abbrev pub t : Operand
 t = Column (codes "t")
 
+abbrev pub one : Operand
+one = Exact (record { kind = Number; top = pos 1; scale = 0 })
+
 abbrev pub eq_one : Operand → Test
-eq_one x = test.Compare Eq x (Integer (pos 1))
+eq_one x = test.Compare Eq x one
 
 abbrev pub one_eq : Operand → Test
-one_eq x = test.Compare Eq (Integer (pos 1)) x
+one_eq x = test.Compare Eq one x
 
 abbrev pub is_null : Operand → Test
 is_null x = test.IsNull x

@@ -1,10 +1,15 @@
 //! The values of literals.
 use crate::syntax::error::ParseError;
 use crate::syntax::token::between;
-use crate::syntax::tree::Operand;
+use crate::syntax::tree::{ExactNumber, Operand};
 use std::alloc::{AllocError, Global};
 use vortex_base::bytes::Bytes;
 use vortex_base::text::Text;
+use vortex_literals::clocks::{read_instant, read_time, read_timestamp};
+use vortex_literals::dates::read_date;
+use vortex_literals::numbers::read_number;
+use vortex_logical::exact::Exact;
+use vortex_logical::logical_type::ExactKind;
 
 /// Returns the bytes between quotes, in which a doubled quote stands for one.
 pub(crate) fn unquoted(alloc: Global, quoted: &[u8]) -> Result<Vec<u8>, AllocError> {
@@ -64,51 +69,57 @@ pub(crate) fn blob_of(alloc: Global, digits: &[u8], at: usize) -> Result<Bytes, 
     Ok(Bytes::new(bytes))
 }
 
-// Returns the whole number of decimal digits, if 127 bits hold it.
-fn whole(digits: &[u8]) -> Option<i128> {
-    let mut number: i128 = 0;
-    for digit in digits {
-        if !digit.is_ascii_digit() {
-            return None;
+// Returns a number of a kind, with no more digits behind the point than it needs.
+fn exact(kind: ExactKind, number: Exact) -> Operand {
+    let mut top = number.top;
+    let mut scale = number.scale;
+    for _turn in 0..number.scale {
+        if top % 10 != 0 {
+            break;
         }
-        number = number
-            .checked_mul(10)?
-            .checked_add(i128::from(digit - b'0'))?;
+        top /= 10;
+        scale = scale.saturating_sub(1);
     }
-    Some(number)
+    Operand::Exact(ExactNumber { kind, top, scale })
 }
 
-/// Returns the whole number of decimal digits. One of more than 127 bits isn't read.
-pub(crate) fn integer_of(digits: &[u8]) -> Operand {
-    match whole(digits) {
-        Some(number) => Operand::Integer(number),
+// Returns a number that was read, or any other expression in its place.
+fn read_as(kind: ExactKind, number: Option<Exact>) -> Operand {
+    match number {
+        Some(number) => exact(kind, number),
         None => Operand::Other,
     }
 }
 
-/// Returns the number of decimal digits with a point. One with an exponent isn't read.
-pub(crate) fn decimal_of(digits: &[u8]) -> Operand {
-    let point = digits.iter().position(|byte| *byte == b'.').unwrap_or(0);
-    let behind = between(digits, point.saturating_add(1), digits.len());
-    if !behind.iter().all(|byte| byte.is_ascii_digit()) {
-        return Operand::Other;
-    }
-    match whole(between(digits, 0, point)) {
-        Some(number) if behind.iter().all(|byte| *byte == b'0') => Operand::Integer(number),
-        Some(number) => Operand::Fraction(number),
-        None => Operand::Other,
-    }
+/// Returns the number of decimal digits, perhaps with a point or an exponent. One that takes more
+/// than 127 bits, or more than 33 digits behind the point, isn't read.
+pub(crate) fn number_of(digits: &[u8]) -> Operand {
+    read_as(ExactKind::Number, read_number(digits))
 }
 
 /// Returns an operand with a minus in front of it, of which only a literal number is read.
 pub(crate) fn negative(operand: Operand) -> Operand {
-    match operand {
-        Operand::Integer(number) => match number.checked_neg() {
-            Some(number) => Operand::Integer(number),
-            None => Operand::Other,
-        },
-        // The whole number below -(n + f) is -n - 1, which takes no more bits than n.
-        Operand::Fraction(number) => Operand::Fraction(!number),
+    let Operand::Exact(number) = operand else {
+        return Operand::Other;
+    };
+    match (number.kind, number.top.checked_neg()) {
+        (ExactKind::Number, Some(top)) => Operand::Exact(ExactNumber { top, ..number }),
         _ => Operand::Other,
+    }
+}
+
+/// Returns the literal of a type that stands before its text, as DATE '2026-01-02'. Of another
+/// type, or with a text in another form, it isn't read.
+pub(crate) fn typed(type_name: &[u8], text: &str) -> Operand {
+    if type_name.eq_ignore_ascii_case(b"date") {
+        read_as(ExactKind::Clock, read_date(text))
+    } else if type_name.eq_ignore_ascii_case(b"timestamp") {
+        read_as(ExactKind::Clock, read_timestamp(text))
+    } else if type_name.eq_ignore_ascii_case(b"timestamptz") {
+        read_as(ExactKind::Instant, read_instant(text))
+    } else if type_name.eq_ignore_ascii_case(b"time") {
+        read_as(ExactKind::TimeOfDay, read_time(text))
+    } else {
+        Operand::Other
     }
 }

@@ -7,7 +7,7 @@ ghost use Rattle.vortex_sql.specs.declared.syntax.tree.Operand.TheVariants.{Othe
 use crate::syntax::cursor::{Cursor, Names};
 use crate::syntax::error::ParseError;
 use crate::syntax::keyword::{is_called, is_of_type, is_reserved};
-use crate::syntax::literal::{blob_of, decimal_of, integer_of, negative, text_of, unquoted};
+use crate::syntax::literal::{blob_of, negative, number_of, text_of, typed, unquoted};
 use crate::syntax::token::{Kind, between};
 use crate::syntax::tree::Operand;
 
@@ -55,16 +55,29 @@ fn qualified(at: &mut Cursor) -> Result<Operand, ParseError>
     Ok(read_as(names, last))
 }
 
-// Reads a name, a call, or a typed literal as DATE '2024-01-01'.
+// Reads the text of a typed literal as DATE '2024-01-01', whose type was taken.
+fn typed_literal(at: &mut Cursor, type_name: &[u8]) -> Result<Operand, ParseError> {
+    let start = at.start();
+    let text = text_of(unquoted(at.alloc, at.spelling())?, start)?;
+    at.take();
+    Ok(typed(type_name, text.as_str()))
+}
+
+// Reads a name, a call, or a typed literal.
 fn named(at: &mut Cursor) -> Result<Operand, ParseError> {
-    let is_call = at.sees(Kind::Word) && is_called(at.spelling());
+    let is_word = at.sees(Kind::Word);
+    let spelling = at.spelling();
+    let is_call = is_word && is_called(spelling);
     let name = column(at)?;
     if at.eat(Kind::Open) {
         at.skip_group()?;
         return Ok(Operand::Other);
     }
-    if is_call || at.eat(Kind::String) {
+    if is_call {
         return Ok(Operand::Other);
+    }
+    if at.sees(Kind::String) {
+        return typed_literal(at, if is_word { spelling } else { b"" });
     }
     if at.sees(Kind::Dot) {
         return qualified(at);
@@ -113,13 +126,9 @@ pub(crate) fn primary(at: &mut Cursor) -> Result<Operand, ParseError> {
         Kind::Name => named(at),
         Kind::String => string(at),
         Kind::Blob => blob(at),
-        Kind::Integer => {
+        Kind::Integer | Kind::Decimal => {
             at.take();
-            Ok(integer_of(spelling))
-        }
-        Kind::Decimal => {
-            at.take();
-            Ok(decimal_of(spelling))
+            Ok(number_of(spelling))
         }
         _ => Err(at.refuse()),
     }

@@ -4,8 +4,9 @@ use crate::syntax::error::ParseError;
 use crate::syntax::operand::{arithmetic, goes_on, operand};
 use crate::syntax::part::{Form, Unary, has_operands, put_operand, put_test, take_operand, wrap};
 use crate::syntax::token::Kind;
-use crate::syntax::tree::{Comparison, Escape, Operand, Test};
+use crate::syntax::tree::{Escape, Operand, Test};
 use sqlite_items::Items;
+use vortex_logical::comparison::Comparison;
 
 // A test that begins with a keyword.
 #[derive(Clone, Copy)]

@@ -1,8 +1,29 @@
 //! Conditions as text, from which the same conditions are read.
-use crate::syntax::tree::{Comparison, Condition, Escape, Leaf, Operand, Test};
+use crate::syntax::tree::{Condition, Escape, ExactNumber, Leaf, Operand, Test};
 use std::alloc::{AllocError, Global};
+use vortex_logical::comparison::Comparison;
 
 type Printed = Result<(), AllocError>;
+
+/// Returns a number as decimal digits, of which so many stand behind a point. `AllocError` if memory
+/// is refused.
+pub fn exact_text(alloc: Global, top: i128, scale: u32) -> Result<String, AllocError> {
+    let mut whole = top.unsigned_abs();
+    let mut behind = Vec::new(alloc);
+    for _digit in 0..scale {
+        behind.push(whole % 10)?;
+        whole /= 10;
+    }
+    let sign = if top < 0 { "-" } else { "" };
+    let mut text = format!(in alloc; "{sign}{whole}")?;
+    if scale > 0 {
+        text.push_str(".")?;
+    }
+    for digit in behind.iter().rev() {
+        write!(text, "{digit}")?;
+    }
+    Ok(text)
+}
 
 // A text that grows, and the text in which the leaves stand.
 #[derive(Drop)]
@@ -50,20 +71,9 @@ impl Printer<'_> {
         self.push("'")
     }
 
-    fn integer(&mut self, number: i128) -> Printed {
-        let digits = format!(in self.alloc; "{number}")?;
-        self.push(digits.as_str())
-    }
-
-    // Prints the number half way between a whole number and the next.
-    fn fraction(&mut self, below: i128) -> Printed {
-        if below < 0 {
-            self.push("-")?;
-            self.integer(!below)?;
-        } else {
-            self.integer(below)?;
-        }
-        self.push(".5")
+    fn number(&mut self, number: ExactNumber) -> Printed {
+        let text = exact_text(self.alloc, number.top, number.scale)?;
+        self.push(text.as_str())
     }
 
     fn operand(&mut self, operand: &Operand) -> Printed {
@@ -72,8 +82,7 @@ impl Printer<'_> {
             Operand::Null => self.push("NULL"),
             Operand::Truth(true) => self.push("TRUE"),
             Operand::Truth(false) => self.push("FALSE"),
-            Operand::Integer(number) => self.integer(*number),
-            Operand::Fraction(below) => self.fraction(*below),
+            Operand::Exact(number) => self.number(*number),
             Operand::Text(text) => self.quoted('\'', text.as_str()),
             Operand::Binary(bytes) => self.hexadecimal(bytes.as_slice()),
             Operand::Other => Ok(()),
@@ -139,7 +148,7 @@ impl Printer<'_> {
     }
 
     fn leaf(&mut self, leaf: &Leaf) -> Printed {
-        if leaf.test.has_operands() {
+        if leaf.test.has_operands() && !leaf.test.has_times() {
             return self.test(&leaf.test);
         }
         let source = self.source;
@@ -190,8 +199,8 @@ impl Printer<'_> {
 }
 
 /// Returns a condition as text: each part that is joined or tested stands in parentheses, names in
-/// double quotes, and literals in one form, a number with a point as that half way between two
-/// whole ones. A leaf with an operand that isn't read stands in parentheses as it does in `source`,
+/// double quotes, and literals in one form, a number with a point by an exponent. A leaf with an
+/// operand that isn't read, or with a date or a time, stands in parentheses as it does in `source`,
 /// the text that the condition was read from.
 pub fn print(alloc: Global, source: &str, condition: &Condition) -> Result<String, AllocError> {
     let mut printer = Printer {

@@ -2,17 +2,8 @@
 use sqlite_items::Items;
 use vortex_base::bytes::Bytes;
 use vortex_base::text::Text;
-
-/// How two operands are compared.
-#[derive(Clone, Copy, Debug, PartialEq, Eq)]
-pub enum Comparison {
-    Eq,
-    NotEq,
-    Gt,
-    Gte,
-    Lt,
-    Lte,
-}
+use vortex_logical::comparison::Comparison;
+use vortex_logical::logical_type::ExactKind;
 
 /// The escape of a pattern, which makes the next character plain.
 #[derive(Clone, Copy, Debug, PartialEq, Eq)]
@@ -24,6 +15,14 @@ pub enum Escape {
     Nothing,
 }
 
+/// A literal that is a number: `top` divided by ten to the `scale`, of what its kind counts.
+#[derive(Clone, Copy, Debug, PartialEq, Eq)]
+pub struct ExactNumber {
+    pub kind: ExactKind,
+    pub top: i128,
+    pub scale: u32,
+}
+
 /// An operand of a test.
 #[derive(Drop)]
 pub enum Operand {
@@ -31,9 +30,7 @@ pub enum Operand {
     Column(Text),
     Null,
     Truth(bool),
-    Integer(i128),
-    /// A number that isn't whole, by the greatest whole number below it.
-    Fraction(i128),
+    Exact(ExactNumber),
     Text(Text),
     Binary(Bytes),
     /// Any other expression.
@@ -63,6 +60,14 @@ fn is_read(operand: &Operand) -> bool {
     !matches!(operand, Operand::Other)
 }
 
+// Tells whether an operand is a date or a time, which several texts spell.
+fn is_timed(operand: &Operand) -> bool {
+    match operand {
+        Operand::Exact(number) => !matches!(number.kind, ExactKind::Number),
+        _ => false,
+    }
+}
+
 impl Test {
     /// Tells whether each operand is a column or a literal.
     pub fn has_operands(&self) -> bool {
@@ -75,6 +80,21 @@ impl Test {
                 is_read(x) && is_read(lower) && is_read(upper)
             }
             Test::In(x, among) => is_read(x) && among.as_slice().iter().all(is_read),
+            Test::Other => false,
+        }
+    }
+
+    /// Tells whether an operand is a date or a time, which several texts spell.
+    pub fn has_times(&self) -> bool {
+        match self {
+            Test::Truth(x) | Test::IsNull(x) => is_timed(x),
+            Test::Compare(_, x, y) | Test::Distinct(x, y) | Test::Like(x, y, _) => {
+                is_timed(x) || is_timed(y)
+            }
+            Test::Between(x, lower, upper) | Test::BetweenSymmetric(x, lower, upper) => {
+                is_timed(x) || is_timed(lower) || is_timed(upper)
+            }
+            Test::In(x, among) => is_timed(x) || among.as_slice().iter().any(is_timed),
             Test::Other => false,
         }
     }

@@ -1,4 +1,4 @@
-use Rattle.vortex_sql.proofs.WorkedRows.{orders, other_readings, patterns, readings, truths}
+use Rattle.vortex_sql.proofs.WorkedRows.{orders, other_readings, patterns, readings, text_readings, truths, typed_readings, typed_truths}
 use Rattle.vortex_sql.proofs.laws.examples_hold.Goals as goal
 
 pub returns : goal.returns
@@ -8,4 +8,7 @@ returns c = record {
   orders = orders;
   patterns = patterns;
   truths = truths;
+  typed = typed_readings;
+  typed_texts = text_readings;
+  typed_truths = typed_truths;
 }

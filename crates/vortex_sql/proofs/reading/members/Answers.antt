@@ -6,10 +6,10 @@ use Rattle.vortex_sql.proofs.reading.members.Goals as goal
 
 pub returns-in-Err : goal.returns-in-Err
 returns-in-Err c = λ q.
-    let scope = c.args.scope.now in
+    let s = c.args.schema.now in
     let x = c.args.x.now in
     let before = option_map (λ v. v.items) c.loop-y.members in
     let rest = drop (suc c.loop-y.y-index) c.args.among.now in
-    member_fails scope x c.y-item.result before rest c.in-Err.e (c.in-Err.ensures q)
-    ∙ ap (λ zs. spec.members_from scope x (Ok before) zs) (sym (next_member c.args.among.now c.loop-y.y-index c.y-item.result c.loop-y-test.true c.y-item.is))
+    member_fails s x c.y-item.result before rest c.in-Err.e (c.in-Err.ensures q)
+    ∙ ap (λ zs. spec.members_from s x (Ok before) zs) (sym (next_member c.args.among.now c.loop-y.y-index c.y-item.result c.loop-y-test.true c.y-item.is))
     ∙ c.loop-y.invariant

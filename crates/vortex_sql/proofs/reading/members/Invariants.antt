@@ -4,4 +4,4 @@ use Rattle.vortex_sql.specs.Readings as spec
 use Rattle.vortex_sql.proofs.reading.members.Given as goal
 
 abbrev pub invariant-loop-y : goal.invariant-loop-y
-invariant-loop-y l = spec.members_from l.scope l.x (Ok (option_map (λ v. v.items) l.members)) (drop l.y-index l.among) ≡ spec.members_from l.scope l.x (Ok (Some [])) l.among
+invariant-loop-y l = spec.members_from l.schema l.x (Ok (option_map (λ v. v.items) l.members)) (drop l.y-index l.among) ≡ spec.members_from l.schema l.x (Ok (Some [])) l.among
