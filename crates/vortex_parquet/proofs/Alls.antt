@@ -1,5 +1,5 @@
 -- What each of a list is, as a loop reads it.
-use Rattle.std.proofs.Common.{◌≡◌, ℕ, ◌+◌, ◌≤◌, ◌<◌, List, [], ◌∷◌, ◌++◌, length, Result, Ok, Err, refl, sym, ap, ◌∙◌, add-one, drop, drop-cons, get_or}
+use Rattle.std.proofs.Common.{◌≡◌, ℕ, ◌+◌, ◌≤◌, ◌<◌, List, [], ◌∷◌, ◌++◌, length, Result, Ok, Err, refl, sym, ap, ◌∙◌, add-one, drop, drop-cons, get_or, map}
 use Rattle.std.proofs.lemmas.List.{append-nil, drop_all}
 use Rattle.vortex_parquet.specs.declared.fault.Fault.{Fault}
 use Rattle.vortex_parquet.specs.declared.fault.ReadError.{ReadError}
@@ -35,3 +35,9 @@ unfolding all_of
 all_done {A} one xs front i total le so_far =
     let first : all_of one (drop i xs) ≡ Ok [] = ap (all_of one) (drop_all i xs le) in
     sym so_far ∙ ap (with_all front) first ∙ ap (λ (fs : List A). Ok fs) (append-nil front)
+
+-- what each of the values of a list is
+pub all_of-map : {A B X : Type 0} (one : B → Result A Fault) (f : X → B) (xs : List X) → all_of (λ (x : X). one (f x)) xs ≡ all_of one (map f xs)
+unfolding all_of
+all_of-map one f [] = refl
+all_of-map {A} one f (x ∷ xs) = ap (λ (r : Result (List A) Fault). one (f x) >>= λ y. r >>= λ ys. Ok (y ∷ ys)) (all_of-map one f xs)

@@ -7,11 +7,14 @@ pub mod ColumnLoop
 pub mod Lookup
 pub mod Texts
 pub mod DecimalNumbers
+pub mod DecimalTypes
+pub mod LogicalLeaves
 pub mod True
 pub mod Structs
 pub mod Smaller
 pub mod Known
 pub mod WorkedRows
+pub mod MeaningRows
 pub mod Witness
 pub mod Groups
 pub mod Views
@@ -25,3 +28,4 @@ pub mod PageIndexes
 pub mod IndexRows
 pub mod DataPages
 pub mod DataPageRows
+pub mod Sizes

@@ -15,7 +15,7 @@ use Rattle.vortex_parquet.specs.Reading.{◌>>=◌}
 use Rattle.vortex_parquet.specs.Fields.{on_found}
 use Rattle.vortex_parquet.specs.Records.{ColumnChunkData, StatisticsData, chunk_of, is_number}
 use Rattle.vortex_parquet.specs.Columns.{is_signed}
-use Rattle.vortex_parquet.specs.Stats.{Entries, all_of, bound_of, chosen, chunk_set, count_of, leaf_set, or_false, precise, set_of, set_or_none, span_set, told, value_of}
+use Rattle.vortex_parquet.specs.Stats.{Entries, all_of, bound_of, chosen, chunk_set, count_of, leaf_set, or_false, precise, set_of, set_or_none, span_set, statistics_by, told, value_of}
 use Rattle.vortex_parquet.specs.Truth.{AreTrue, AreTrueOf, AreTrueSets, Fit, TrueGroups}
 use Rattle.vortex_parquet.proofs.Sound.{bind_ok, one_ok}
 
@@ -94,10 +94,10 @@ cond_claims : (b : Bool) (es : Entries) (c : ColumnData) → (b ≡ true → (st
 cond_claims true es c h stat = h refl stat
 cond_claims false es c h stat = none_claims c stat
 
-chunk_claims : (l : Leaf) (ordered : Bool) (chunk : ColumnChunkData) (c : ColumnData) → ((s : StatisticsData) → is_number l.physical chunk.physical ≡ true → chunk.statistics ≡ Some s → AreTrue l.form ordered s c.values)
+chunk_claims : (l : Leaf) (ordered : Bool) (chunk : ColumnChunkData) (c : ColumnData) → ((s : StatisticsData) → is_number l.physical chunk.physical ≡ true → statistics_by l.nullability chunk.statistics ≡ Some s → AreTrue l.form ordered s c.values)
     → (stat : Stat) → Claims stat (entry_value stat (chunk_set l ordered chunk)) c
 unfolding chunk_set
-chunk_claims l ordered chunk c h stat = cond_claims (is_number l.physical chunk.physical) (set_or_none l.form ordered chunk.statistics) c (λ t. some_claims l.form ordered chunk.statistics c (λ s e. h s t e)) stat
+chunk_claims l ordered chunk c h stat = cond_claims (is_number l.physical chunk.physical) (set_or_none l.form ordered (statistics_by l.nullability chunk.statistics)) c (λ t. some_claims l.form ordered (statistics_by l.nullability chunk.statistics) c (λ s e. h s t e)) stat
 
 span_claims : (l : Leaf) (ordered : Bool) (o : Option (List ℕ)) (c : ColumnData) (es : Entries) → on_found (Ok []) (span_set l ordered) o ≡ Ok es → AreTrueOf l ordered o c.values → (stat : Stat) → Claims stat (entry_value stat es) c
 unfolding span_set

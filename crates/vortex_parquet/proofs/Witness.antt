@@ -15,9 +15,10 @@ use Rattle.vortex_stats.specs.Sets.Claims.{NoneAbove, NoneBelow}
 use Rattle.vortex_parquet.specs.Compact.{binary_at, count_at, head_at, id_at, items_at, jump, kind_at, kinds_at, map_at, natural_at, varint_at, varint_from, varint_in}
 use Rattle.vortex_parquet.specs.Skip.{fields_in, skip_at, skip_entry, skip_value, struct_at, times}
 use Rattle.vortex_parquet.specs.Fields.{binary_in, is_told, last_found, many, natural_in, number_in, spans_in, struct_of, items_in, items_of}
+use Rattle.vortex_parquet.specs.Meanings.{meaning_of}
 use Rattle.vortex_parquet.specs.Records.{ColumnChunkData, StatisticsData, annotation_in, chunk_of, element_of, file_of, meta_of, order_of, row_group_of, row_groups_of, spans_of, statistics_in, statistics_of}
 use Rattle.vortex_parquet.specs.Columns.{checked, columns_in, columns_of, content_of, form_of, four, leaf_of, nullability}
-use Rattle.vortex_parquet.specs.Stats.{all_of, chunk_set, four_of, four_value, group_at, group_of, groups_of, leaf_set, set_of, span_set, value_of}
+use Rattle.vortex_parquet.specs.Stats.{all_of, chunk_set, four_of, four_value, group_at, group_of, groups_of, leaf_set, set_of, size_of, span_set, statistics_by, value_of}
 use Rattle.vortex_parquet.specs.Truth.{AreTrue, AreTrueOf}
 use Rattle.vortex_parquet.specs.Witness.{TrueFile, chunk, file, group, leaf, rows, set, span, statistics}
 use Rattle.vortex_parquet.proofs.Sound.{one_ok}
@@ -77,7 +78,7 @@ chunk_is = refl
 span_true : AreTrueOf leaf true (Some span) rows.values
 span_true c s e t k =
     let same : chunk ≡ c = one_ok chunk c (sym chunk_is ∙ e) in
-    let some : chunk.statistics ≡ Some s = subst (λ (x : ColumnChunkData). x.statistics ≡ Some s) (sym same) k in
+    let some : Some statistics ≡ Some s = subst (λ (x : ColumnChunkData). statistics_by leaf.nullability x.statistics ≡ Some s) (sym same) k in
     subst (λ (x : StatisticsData). AreTrue leaf.form true x rows.values) (inner statistics s some) statistics_true
 
 sets_are : all_of (leaf_set file.orders group.columns) (leaf ∷ []) ≡ Ok (set ∷ [])
@@ -85,7 +86,7 @@ unfolding kind_at jump varint_from varint_in varint_at natural_at binary_at id_a
 sets_are = refl
 
 pub a_file_is_true : TrueFile
-unfolding kind_at jump varint_from varint_in varint_at natural_at binary_at id_at head_at count_at items_at kinds_at map_at times skip_entry fields_in struct_at skip_value skip_at struct_of last_found binary_in number_in natural_in is_told spans_in items_of items_in many statistics_of statistics_in meta_of chunk_of spans_of row_group_of annotation_in element_of order_of file_of row_groups_of columns_of columns_in checked content_of leaf_of nullability form_of four groups_of group_at group_of all_of leaf_set span_set chunk_set set_of four_value four_of
+unfolding kind_at jump varint_from varint_in varint_at natural_at binary_at id_at head_at count_at items_at kinds_at map_at times skip_entry fields_in struct_at skip_value skip_at struct_of last_found binary_in number_in natural_in is_told spans_in items_of items_in many statistics_of statistics_in meta_of chunk_of spans_of row_group_of annotation_in element_of order_of file_of row_groups_of columns_of columns_in checked content_of leaf_of meaning_of nullability form_of four groups_of group_at group_of all_of leaf_set span_set chunk_set set_of size_of four_value four_of
 a_file_is_true = record {
   read = refl;
   groups = refl;

@@ -3,13 +3,14 @@ use Rattle.std.proofs.Common.{refl}
 use Rattle.std.specs.Str.{chars, is_utf8}
 use Rattle.vortex_parquet.specs.Compact.{binary_at, count_at, head_at, id_at, items_at, jump, kind_at, kinds_at, map_at, natural_at, varint_at, varint_from, varint_in}
 use Rattle.vortex_parquet.specs.Skip.{fields_in, skip_at, skip_entry, skip_value, struct_at, times}
-use Rattle.vortex_parquet.specs.Fields.{binary_in, byte_in, is_told, last_found, natural_in, number_in, struct_of}
+use Rattle.vortex_parquet.specs.Fields.{binary_in, byte_in, is_told, last_found, natural_in, number_in, struct_of, truth_in}
 use Rattle.vortex_parquet.specs.Footer.{footer_of, last_of, length_of}
-use Rattle.vortex_parquet.specs.Records.{annotation_at, annotation_from, annotation_in, decimal_of, element_of, integer_of, statistics_of}
+use Rattle.vortex_parquet.specs.Records.{annotation_at, annotation_from, annotation_in, chunk_size, decimal_of, element_of, integer_of, meta_size, order_of, statistics_of, time_of, timestamp_of, unit_at, unit_in}
 use Rattle.vortex_parquet.specs.Columns.{bool_form, bytes_form, checked, columns_in, columns_of, content_of, converted, eight, fixed_form, form_of, four, leaf_of, lookup, nullability}
 use Rattle.vortex_parquet.specs.Decimals.{number_of}
-use Rattle.vortex_parquet.specs.Stats.{bool_value, chunk_set, eight_of, eight_value, four_of, four_value, set_of}
-use Rattle.vortex_parquet.specs.Worked.{BoundExamples, ColumnExamples, GrammarExamples, TableExamples}
+use Rattle.vortex_parquet.specs.Meanings.{meaning_of}
+use Rattle.vortex_parquet.specs.Stats.{all_of, bool_value, chunk_set, eight_of, eight_value, four_of, four_value, group_of, set_of, size_of}
+use Rattle.vortex_parquet.specs.Worked.{BoundExamples, ColumnExamples, GrammarExamples, SizeExamples, TableExamples}
 
 pub grammar : GrammarExamples
 unfolding kind_at jump varint_from varint_in varint_at natural_at binary_at id_at head_at count_at items_at kinds_at map_at times skip_entry fields_in struct_at skip_value skip_at struct_of last_found length_of last_of footer_of
@@ -76,13 +77,15 @@ grammar = record {
 }
 
 pub table : TableExamples
-unfolding kind_at jump varint_from varint_in varint_at natural_at binary_at id_at head_at count_at items_at kinds_at map_at times skip_entry fields_in struct_at skip_value skip_at struct_of last_found binary_in number_in natural_in byte_in is_told statistics_of element_of annotation_in annotation_at annotation_from integer_of decimal_of converted form_of bool_form four eight bytes_form fixed_form nullability leaf_of
+unfolding kind_at jump varint_from varint_in varint_at natural_at binary_at id_at head_at count_at items_at kinds_at map_at times skip_entry fields_in struct_at skip_value skip_at struct_of last_found binary_in number_in natural_in byte_in is_told truth_in statistics_of element_of annotation_in annotation_at annotation_from integer_of decimal_of unit_at unit_in time_of timestamp_of converted form_of bool_form four eight bytes_form fixed_form nullability order_of
 table = record {
   truths = refl;
   truths_annotated = refl;
   numbers = refl;
   decimals = refl;
+  dates = refl;
   times = refl;
+  timestamps = refl;
   numbers_i8 = refl;
   numbers_u8 = refl;
   numbers_i16 = refl;
@@ -94,7 +97,9 @@ table = record {
   numbers_otherwise = refl;
   long_numbers = refl;
   long_decimals = refl;
+  long_dates = refl;
   long_times = refl;
+  long_timestamps = refl;
   long_signed = refl;
   long_unsigned = refl;
   numbers_of_32_bits_in_eight = refl;
@@ -105,19 +110,26 @@ table = record {
   texts = refl;
   bson = refl;
   decimals_in_bytes = refl;
+  decimals_in_bytes_without_scale = refl;
   whole_decimals_in_bytes = refl;
   long_decimals_in_bytes = refl;
+  untold_decimals_in_bytes = refl;
+  dates_in_bytes = refl;
+  times_in_bytes = refl;
+  timestamps_in_bytes = refl;
   fixed = refl;
   uuids = refl;
   fixed_texts = refl;
   fixed_decimals = refl;
   long_fixed_decimals = refl;
+  untold_fixed_decimals = refl;
   no_type = refl;
   newer_wins = refl;
   newer_unknown_wins = refl;
   newer_empty = refl;
   older_alone = refl;
   older_decimals = refl;
+  newer_unit_wins = refl;
   neither = refl;
   older_0 = refl;
   older_1 = refl;
@@ -151,21 +163,35 @@ table = record {
   newer_4 = refl;
   newer_5_whole = refl;
   newer_5_fraction = refl;
+  newer_5_below_0 = refl;
   newer_5_without_scale = refl;
   newer_5_of_18_digits = refl;
   newer_5_of_19_digits = refl;
   older_5_fraction = refl;
+  older_5_below_0 = refl;
   older_5_scale_0 = refl;
   older_5_of_18_digits = refl;
   older_5_of_19_digits = refl;
-  raw_times = refl;
-  raw_fractions = refl;
-  raw_short_fractions = refl;
-  plain_decimals = refl;
-  plain_numbers = refl;
   newer_6 = refl;
+  newer_6_of_another_kind = refl;
   newer_7 = refl;
+  newer_7_milliseconds = refl;
+  newer_7_microseconds = refl;
+  newer_7_nanoseconds = refl;
+  newer_7_of_no_unit = refl;
+  newer_7_of_another_kind = refl;
   newer_8 = refl;
+  newer_8_milliseconds = refl;
+  newer_8_microseconds = refl;
+  newer_8_nanoseconds = refl;
+  newer_8_not_adjusted = refl;
+  newer_8_untold = refl;
+  newer_8_told_both = refl;
+  newer_8_without_unit = refl;
+  newer_8_unit_of_another_kind = refl;
+  newer_8_first_unit = refl;
+  newer_8_no_field_of_unit = refl;
+  newer_8_of_another_kind = refl;
   newer_11 = refl;
   newer_12 = refl;
   newer_13 = refl;
@@ -176,8 +202,11 @@ table = record {
   newer_10_64 = refl;
   newer_none = refl;
   decimal_element = refl;
-  decimal_leaf = refl;
   statistics = refl;
+  order_of_the_type = refl;
+  order_undefined = refl;
+  order_of_another_name = refl;
+  order_of_another_kind = refl;
   statistics_few = refl;
 }
 
@@ -260,10 +289,15 @@ bounds = record {
   set_of_another_type = refl;
   set_of_no_type = refl;
   set_without_statistics = refl;
+  required_without_statistics = refl;
+  required_without_null_count = refl;
+  required_with_null_count = refl;
+  optional_without_null_count = refl;
+  optional_with_null_count = refl;
 }
 
 pub columns : ColumnExamples
-unfolding columns_of columns_in checked content_of leaf_of nullability form_of bool_form four eight bytes_form fixed_form converted lookup
+unfolding columns_of columns_in checked content_of leaf_of meaning_of nullability form_of bool_form four eight bytes_form fixed_form converted lookup
 columns = record {
   columns = refl;
   no_root = refl;
@@ -273,4 +307,26 @@ columns = record {
   two_of_a_name = refl;
   one_left_out = refl;
   none_of_a_name = refl;
+}
+
+pub sizes : SizeExamples
+unfolding kind_at jump varint_from varint_in varint_at natural_at binary_at id_at head_at count_at items_at kinds_at map_at times skip_entry fields_in struct_at skip_value skip_at struct_of last_found number_in natural_in meta_size chunk_size size_of all_of group_of
+sizes = record {
+  chunk = refl;
+  chunk_compressed = refl;
+  chunk_uncompressed_alone = refl;
+  chunk_without_metadata = refl;
+  chunk_below_0 = refl;
+  sum = refl;
+  sum_of_none = refl;
+  first_not_told = refl;
+  last_not_told = refl;
+  greatest = refl;
+  past_64_bits = refl;
+  told = refl;
+  together = refl;
+  one_not_told = refl;
+  one_elsewhere = refl;
+  group = refl;
+  group_told = refl;
 }

@@ -1,5 +1,5 @@
 -- The columns of a schema, and how the bounds of those that are read are read.
-use Rattle.std.specs.Prelude.{◌≡◌, ℕ, ◌+◌, ◌-◌, Bool, true, false, not, ◌||◌, List, [], ◌∷◌, ◌++◌, length, Option, Some, None, Result, Ok, Err, option_and_then, filter, map, ◌==◌, nat_lt, if◌then◌else◌, ⊤}
+use Rattle.std.specs.Prelude.{◌≡◌, ℕ, ◌+◌, ◌-◌, Bool, true, false, not, ◌||◌, List, [], ◌∷◌, ◌++◌, length, Option, Some, None, Result, Ok, Err, option_and_then, filter, map, ◌==◌, nat_le, nat_lt, if◌then◌else◌, ⊤}
 use lib.Pointwise.{pointwise}
 use Rattle.vortex_base.specs.Data.Scopes.{Named}
 use Rattle.vortex_base.specs.declared.dtype.DType.{DType}
@@ -8,6 +8,7 @@ use Rattle.vortex_base.specs.declared.types.Nullability.{Nullability}
 use Rattle.vortex_base.specs.declared.types.Nullability.TheVariants.{Nullable, NonNullable}
 use Rattle.vortex_base.specs.declared.types.PType.{PType}
 use Rattle.vortex_base.specs.declared.types.PType.TheVariants as ptype
+use Rattle.vortex_logical.specs.declared.time_unit.TimeUnit.TheVariants as unit
 use Rattle.vortex_parquet.specs.declared.fault.Fault.{Fault}
 use Rattle.vortex_parquet.specs.declared.fault.Fault.TheVariants as fault
 use Rattle.vortex_parquet.specs.declared.columns.Column.{Column}
@@ -20,8 +21,10 @@ use Rattle.vortex_parquet.specs.declared.columns.Leaf.{Leaf}
 use Rattle.vortex_parquet.specs.declared.columns.LeftOut.TheVariants as left_out
 use Rattle.vortex_parquet.specs.declared.records.Annotation.{Annotation}
 use Rattle.vortex_parquet.specs.declared.records.Annotation.TheVariants as annotation
+use Rattle.vortex_parquet.specs.Fields.{natural_of}
+use Rattle.vortex_parquet.specs.Meanings.{meaning_of}
 use Rattle.vortex_parquet.specs.Reading.{◌>>=◌}
-use Rattle.vortex_parquet.specs.Records.{ElementData, is_number, is_short}
+use Rattle.vortex_parquet.specs.Records.{ElementData, is_number}
 
 -- the type of the values of a form
 abbrev pub form_dtype : Form → Nullability → DType
@@ -51,17 +54,21 @@ is_signed form.Utf8 = false
 is_signed form.Binary = false
 is_signed form.Decimal = false
 
--- decimals that are annotated in the older way are whole numbers without a scale, or of scale 0
-abbrev pub is_whole : Option ℕ → Bool
-is_whole None = true
-is_whole (Some n) = n == 0
+-- how many digits stand behind the point of decimals that are annotated in the older way: none where it isn't told
+abbrev pub older_scale : Option ℕ → Option ℕ
+older_scale None = Some 0
+older_scale (Some n) = natural_of (Some n)
 
 -- the older annotation, enum ConvertedType, as the newer one
 unfoldable pub converted : ℕ → (scale precision : Option ℕ) → Annotation
 converted n scale precision =
     if (n == 0) || (n == 4) || (n == 19) then annotation.Text else (
-    if n == 5 then annotation.Decimal (is_whole scale) (is_short precision) else (
-    if (n == 6) || (n == 7) || (n == 8) || (n == 9) || (n == 10) then annotation.Time else (
+    if n == 5 then annotation.Decimal (older_scale scale) precision else (
+    if n == 6 then annotation.Date else (
+    if n == 7 then annotation.Time (Some unit.Milliseconds) else (
+    if n == 8 then annotation.Time (Some unit.Microseconds) else (
+    if n == 9 then annotation.Timestamp (Some true) (Some unit.Milliseconds) else (
+    if n == 10 then annotation.Timestamp (Some true) (Some unit.Microseconds) else (
     if n == 11 then annotation.Integer 8 false else (
     if n == 12 then annotation.Integer 16 false else (
     if n == 13 then annotation.Integer 32 false else (
@@ -70,7 +77,7 @@ converted n scale precision =
     if n == 16 then annotation.Integer 16 true else (
     if n == 17 then annotation.Integer 32 true else (
     if n == 18 then annotation.Integer 64 true else (
-    if n == 20 then annotation.Bytes else annotation.Other)))))))))))
+    if n == 20 then annotation.Bytes else annotation.Other)))))))))))))))
 
 abbrev pub converted_or_none : Option ℕ → (scale precision : Option ℕ) → Annotation
 converted_or_none None scale precision = annotation.None
@@ -92,8 +99,10 @@ four_integer bits signed =
 -- numbers in four bytes
 unfoldable pub four : Annotation → Option Form
 four annotation.None = Some (form.Four ptype.I32)
-four (annotation.Decimal whole short) = Some (form.Four ptype.I32)
-four annotation.Time = Some (form.Four ptype.I32)
+four (annotation.Decimal scale precision) = Some (form.Four ptype.I32)
+four annotation.Date = Some (form.Four ptype.I32)
+four (annotation.Time u) = Some (form.Four ptype.I32)
+four (annotation.Timestamp adjusted u) = Some (form.Four ptype.I32)
 four (annotation.Integer bits signed) = four_integer bits signed
 four l = None
 
@@ -104,27 +113,34 @@ eight_integer bits signed = if bits == 64 then Some (form.Eight (if signed then 
 -- numbers in eight bytes
 unfoldable pub eight : Annotation → Option Form
 eight annotation.None = Some (form.Eight ptype.I64)
-eight (annotation.Decimal whole short) = Some (form.Eight ptype.I64)
-eight annotation.Time = Some (form.Eight ptype.I64)
+eight (annotation.Decimal scale precision) = Some (form.Eight ptype.I64)
+eight annotation.Date = Some (form.Eight ptype.I64)
+eight (annotation.Time u) = Some (form.Eight ptype.I64)
+eight (annotation.Timestamp adjusted u) = Some (form.Eight ptype.I64)
 eight (annotation.Integer bits signed) = eight_integer bits signed
 eight l = None
 
+-- decimals of at most 18 digits fit 64 bits
+abbrev pub is_short : Option ℕ → Bool
+is_short None = false
+is_short (Some n) = nat_le n 18
+
 -- decimals in bytes are read where each fits 64 bits
-abbrev pub decimal_form : Bool → Option Form
-decimal_form short = if short then Some form.Decimal else None
+abbrev pub decimal_form : Option ℕ → Option Form
+decimal_form precision = if is_short precision then Some form.Decimal else None
 
 -- bytes of any length, and of one length
 unfoldable pub bytes_form : Annotation → Option Form
 bytes_form annotation.None = Some form.Binary
 bytes_form annotation.Bytes = Some form.Binary
 bytes_form annotation.Text = Some form.Utf8
-bytes_form (annotation.Decimal whole short) = decimal_form short
+bytes_form (annotation.Decimal scale precision) = decimal_form precision
 bytes_form l = None
 
 unfoldable pub fixed_form : Annotation → Option Form
 fixed_form annotation.None = Some form.Binary
 fixed_form annotation.Bytes = Some form.Binary
-fixed_form (annotation.Decimal whole short) = decimal_form short
+fixed_form (annotation.Decimal scale precision) = decimal_form precision
 fixed_form l = None
 
 unfoldable pub bool_form : Annotation → Option Form
@@ -148,12 +164,6 @@ infixl 10 ◌>=>◌
 abbrev pub ◌>=>◌ : {A B : Type 0} → Option A → (A → Option B) → Option B
 o >=> f = option_and_then f o
 
--- numbers that are annotated so stand for something else: days, times, or decimals with a fraction
-abbrev pub is_raw : Annotation → Bool
-is_raw annotation.Time = true
-is_raw (annotation.Decimal whole short) = not whole
-is_raw l = false
-
 -- the leaf column of an element at a place among the leaf columns, if its statistics are read
 unfoldable pub leaf_of : ℕ → ElementData → Option Leaf
 leaf_of place e =
@@ -161,7 +171,7 @@ leaf_of place e =
     e.repetition >=> λ repetition.
     nullability repetition >=> λ n.
     form_of physical (annotation_of e.annotation e.converted e.scale e.precision) >=> λ form.
-    Some (record { place = place; physical = physical; form = form; is_raw = is_raw (annotation_of e.annotation e.converted e.scale e.precision); nullability = n })
+    Some (record { place = place; physical = physical; form = form; meaning = meaning_of physical (annotation_of e.annotation e.converted e.scale e.precision); nullability = n })
 
 -- how many elements stand right below one
 abbrev pub below : Option ℕ → ℕ

@@ -1,5 +1,5 @@
 -- Structs and lists by their fields and items.
-use Rattle.std.specs.Prelude.{ℕ, zero, suc, ◌/◌, ◌%◌, Bool, ◌&&◌, List, [], ◌∷◌, Option, Some, None, Result, Ok, map, is_some, is_none, ◌==◌, if◌then◌else◌}
+use Rattle.std.specs.Prelude.{ℕ, zero, suc, ◌/◌, ◌%◌, Bool, true, false, ◌&&◌, List, [], ◌∷◌, Option, Some, None, Result, Ok, map, is_some, is_none, ◌==◌, if◌then◌else◌}
 use Rattle.vortex_parquet.specs.declared.fault.Fault.{Fault}
 use Rattle.vortex_parquet.specs.declared.compact.Kind.{Kind}
 use Rattle.vortex_parquet.specs.declared.compact.Kind.TheVariants as kind
@@ -84,6 +84,16 @@ byte_in fs id = first_of (found fs id kind.Byte)
 -- it is told to be true, and never to be false
 unfoldable pub is_told : List FieldData → ℕ → Bool
 is_told fs id = is_some (found fs id kind.True) && is_none (found fs id kind.False)
+
+abbrev pub truth_from : (is_true is_false : Bool) → Option Bool
+truth_from true true = None
+truth_from true false = Some true
+truth_from false true = Some false
+truth_from false false = None
+
+-- what it is told to be, and never otherwise
+unfoldable pub truth_in : List FieldData → ℕ → Option Bool
+truth_in fs id = truth_from (is_some (found fs id kind.True)) (is_some (found fs id kind.False))
 
 -- ---- lists
 

@@ -1,5 +1,6 @@
 -- The pages of a column chunk, from the last bytes of its file.
 use Rattle.std.specs.Prelude.{ℕ, ◌-◌, List, Option, Some, None, Result, Ok, length, take, drop, nat_lt, ◌||◌, if◌then◌else◌}
+use Rattle.vortex_base.specs.declared.types.Nullability.{Nullability}
 use Rattle.vortex_parquet.specs.declared.columns.Leaf.{Leaf}
 use Rattle.vortex_parquet.specs.declared.fault.Fault.{Fault}
 use Rattle.vortex_parquet.specs.declared.group_pages.FileTail.{FileTail}
@@ -8,6 +9,7 @@ use Rattle.vortex_parquet.specs.PageIndex.{column_index_of, offset_index_of, pla
 use Rattle.vortex_parquet.specs.Pages.{PageData, one_page, pages_of}
 use Rattle.vortex_parquet.specs.Reading.{◌>>=◌}
 use Rattle.vortex_parquet.specs.Records.{ColumnChunkData, StatisticsData, chunk_of, is_number}
+use Rattle.vortex_parquet.specs.Stats.{statistics_by}
 
 -- the bytes of a file from a place on
 pub record TailData : Type 0 where
@@ -28,14 +30,14 @@ bytes_at t (Some place) None = None
 bytes_at t (Some place) (Some n) = if nat_lt place t.begin then None else cut_out t.bytes (place - t.begin) n
 
 -- the pages by both indexes; a column chunk without them is one page with its statistics
-unfoldable pub indexed : ℕ → Option StatisticsData → (index offsets : Option (List ℕ)) → Result (List PageData) Fault
-indexed rows s (Some index) (Some offsets) = column_index_of index >>= λ x. offset_index_of offsets >>= λ ls. pages_of rows x ls
-indexed rows s index offsets = Ok (one_page rows s)
+unfoldable pub indexed : ℕ → Nullability → Option StatisticsData → (index offsets : Option (List ℕ)) → Result (List PageData) Fault
+indexed rows n s (Some index) (Some offsets) = column_index_of index >>= λ x. offset_index_of offsets >>= λ ls. pages_of rows n x ls
+indexed rows n s index offsets = Ok (one_page rows s)
 
 -- the indexes and the statistics are used of a column chunk of the schema's physical type alone
 abbrev pub pages_by : TailData → ℕ → Leaf → IndexPlaces → ColumnChunkData → Result (List PageData) Fault
 pages_by t rows l places chunk = if is_number l.physical chunk.physical
-    then indexed rows chunk.statistics (bytes_at t places.column_index places.column_index_length) (bytes_at t places.offset_index places.offset_index_length)
+    then indexed rows l.nullability (statistics_by l.nullability chunk.statistics) (bytes_at t places.column_index places.column_index_length) (bytes_at t places.offset_index places.offset_index_length)
     else Ok (one_page rows None)
 
 -- those of the column chunk with which the bytes begin

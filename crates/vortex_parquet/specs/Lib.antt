@@ -5,7 +5,9 @@ pub mod Fields
 pub mod Records
 pub mod PageIndex
 pub mod Footer
+pub mod Meanings
 pub mod Columns
+pub mod LogicalLeaves
 pub mod Decimals
 pub mod Grammar
 pub mod Stats
@@ -13,6 +15,7 @@ pub mod Truth
 pub mod Pages
 pub mod Stretches
 pub mod Worked
+pub mod MeaningWorked
 pub mod Witness
 pub mod PageWorked
 pub mod GroupPages

@@ -52,7 +52,7 @@ stretches = record { rows = 3; size = None; stats = first_set ∷ [] } ∷ recor
 pub record TruePages : Type 0 where
   pub index_read : column_index_of index_bytes ≡ Ok index
   pub offsets_read : offset_index_of offset_bytes ≡ Ok locations
-  pub pages : pages_of 5 index locations ≡ Ok (first ∷ second ∷ [])
+  pub pages : pages_of 5 Nullable index locations ≡ Ok (first ∷ second ∷ [])
   pub truth : AreTruePages (column ∷ []) (rows ∷ [])
   pub cut : AreStretchesOf (column ∷ []) 5 stretches
   pub first_sets : AreTrueSets (map (column_of_rows 0 3) (rows ∷ [])) (first_set ∷ [])

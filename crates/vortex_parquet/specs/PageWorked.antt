@@ -2,12 +2,15 @@
 use Rattle.std.specs.Prelude.{◌≡◌, true, false, List, [], ◌∷◌, Some, None, Ok, Err, codes}
 use Rattle.vortex_base.specs.declared.pvalue.PValue.TheVariants as number
 use Rattle.vortex_base.specs.declared.scalar_value.ScalarValue.TheVariants as value
+use Rattle.vortex_base.specs.declared.types.Nullability.TheVariants.{Nullable, NonNullable}
 use Rattle.vortex_stats.specs.declared.precision.Precision.TheVariants.{Exact, Inexact, Absent}
 use Rattle.vortex_stats.specs.declared.stat.Stat.TheVariants.{Max, Min, NullCount}
 use Rattle.vortex_parquet.specs.declared.columns.Form.TheVariants as form
 use Rattle.vortex_parquet.specs.declared.fault.Fault.TheVariants as fault
+use Rattle.vortex_parquet.specs.GroupPages.{indexed}
 use Rattle.vortex_parquet.specs.PageIndex.{IndexData, column_index_of, count_at, location_of, offset_index_of, places_of, truth_at}
 use Rattle.vortex_parquet.specs.Pages.{PageData, all_null, bounded, has_length, pages_of, statistics_at}
+use Rattle.vortex_parquet.specs.Stats.{statistics_by}
 use Rattle.vortex_parquet.specs.Stretches.{behind, follow, next_end, nulls_within, set_within, within}
 
 -- three pages of texts, of which the second is null: it has bytes in the places of its bounds
@@ -20,6 +23,13 @@ text_pages =
     record { first = 0; end = 3; statistics = bounded (Some (codes "a")) (Some (codes "c")) (Some 0) } ∷
     record { first = 3; end = 5; statistics = all_null 2 } ∷
     record { first = 5; end = 8; statistics = bounded (Some (codes "d")) (Some (codes "f")) None } ∷ []
+
+-- those of a column without nulls
+abbrev pub required_pages : List PageData
+required_pages =
+    record { first = 0; end = 3; statistics = bounded (Some (codes "a")) (Some (codes "c")) (Some 0) } ∷
+    record { first = 3; end = 5; statistics = all_null 2 } ∷
+    record { first = 5; end = 8; statistics = bounded (Some (codes "d")) (Some (codes "f")) (Some 0) } ∷ []
 
 pub record PageExamples : Type 0 where
   pub places : places_of (38 ∷ 8 ∷ 38 ∷ 100 ∷ 21 ∷ 14 ∷ 22 ∷ 30 ∷ 21 ∷ 18 ∷ 0 ∷ []) ≡ Ok (record { offset_index = Some 50; offset_index_length = Some 7; column_index = Some 15; column_index_length = Some 9 })
@@ -42,24 +52,31 @@ pub record PageExamples : Type 0 where
   pub index : column_index_of (25 ∷ 49 ∷ 2 ∷ 1 ∷ 2 ∷ 25 ∷ 56 ∷ 1 ∷ 97 ∷ 1 ∷ 122 ∷ 1 ∷ 100 ∷ 25 ∷ 56 ∷ 1 ∷ 99 ∷ 1 ∷ 121 ∷ 1 ∷ 102 ∷ 21 ∷ 2 ∷ 25 ∷ 54 ∷ 0 ∷ 4 ∷ 1 ∷ 0 ∷ []) ≡ Ok texts
   pub index_of_the_other_kind : column_index_of (25 ∷ 50 ∷ 2 ∷ 1 ∷ 2 ∷ 25 ∷ 56 ∷ 1 ∷ 97 ∷ 1 ∷ 122 ∷ 1 ∷ 100 ∷ 25 ∷ 56 ∷ 1 ∷ 99 ∷ 1 ∷ 121 ∷ 1 ∷ 102 ∷ 21 ∷ 2 ∷ 25 ∷ 54 ∷ 0 ∷ 4 ∷ 1 ∷ 0 ∷ []) ≡ Ok texts
   pub index_without_counts : column_index_of (25 ∷ 17 ∷ 2 ∷ 25 ∷ 24 ∷ 1 ∷ 97 ∷ 25 ∷ 24 ∷ 1 ∷ 99 ∷ 0 ∷ []) ≡ Ok (record { null_pages = false ∷ []; mins = codes "a" ∷ []; maxes = codes "c" ∷ []; null_counts = [] })
-  pub first_bounds : statistics_at texts 0 3 ≡ bounded (Some (codes "a")) (Some (codes "c")) (Some 0)
-  pub null_page : statistics_at texts 1 2 ≡ all_null 2
-  pub last_bounds : statistics_at texts 2 3 ≡ bounded (Some (codes "d")) (Some (codes "f")) None
-  pub more_nulls_than_rows : statistics_at (record texts { null_counts = Some 4 ∷ Some 2 ∷ Some 3 ∷ [] }) 0 3 ≡ bounded (Some (codes "a")) (Some (codes "c")) None
-  pub as_many_nulls_as_rows : statistics_at (record texts { null_counts = Some 4 ∷ Some 2 ∷ Some 3 ∷ [] }) 2 3 ≡ bounded (Some (codes "d")) (Some (codes "f")) (Some 3)
-  pub no_nulls_told : statistics_at (record texts { null_counts = [] }) 0 3 ≡ bounded (Some (codes "a")) (Some (codes "c")) None
-  pub pages : pages_of 8 texts (record { offset = 4; size = 10; first_row = 0 } ∷ record { offset = 14; size = 5; first_row = 3 } ∷ record { offset = 19; size = 6; first_row = 5 } ∷ []) ≡ Ok text_pages
-  pub no_pages : pages_of 0 (record { null_pages = []; mins = []; maxes = []; null_counts = [] }) [] ≡ Ok []
-  pub no_pages_of_rows : pages_of 1 (record { null_pages = []; mins = []; maxes = []; null_counts = [] }) [] ≡ Err fault.Pages
-  pub unequal_lengths : pages_of 8 texts (record { offset = 4; size = 10; first_row = 0 } ∷ record { offset = 14; size = 5; first_row = 3 } ∷ []) ≡ Err fault.Pages
+  pub first_bounds : statistics_at Nullable texts 0 3 ≡ bounded (Some (codes "a")) (Some (codes "c")) (Some 0)
+  pub null_page : statistics_at Nullable texts 1 2 ≡ all_null 2
+  pub last_bounds : statistics_at Nullable texts 2 3 ≡ bounded (Some (codes "d")) (Some (codes "f")) None
+  pub more_nulls_than_rows : statistics_at Nullable (record texts { null_counts = Some 4 ∷ Some 2 ∷ Some 3 ∷ [] }) 0 3 ≡ bounded (Some (codes "a")) (Some (codes "c")) None
+  pub as_many_nulls_as_rows : statistics_at Nullable (record texts { null_counts = Some 4 ∷ Some 2 ∷ Some 3 ∷ [] }) 2 3 ≡ bounded (Some (codes "d")) (Some (codes "f")) (Some 3)
+  pub no_nulls_told : statistics_at Nullable (record texts { null_counts = [] }) 0 3 ≡ bounded (Some (codes "a")) (Some (codes "c")) None
+  pub required_unknown : statistics_at NonNullable texts 2 3 ≡ bounded (Some (codes "d")) (Some (codes "f")) (Some 0)
+  pub required_not_told : statistics_at NonNullable (record texts { null_counts = [] }) 0 3 ≡ bounded (Some (codes "a")) (Some (codes "c")) (Some 0)
+  pub required_told : statistics_at NonNullable (record texts { null_counts = Some 1 ∷ Some 2 ∷ Some 3 ∷ [] }) 0 3 ≡ bounded (Some (codes "a")) (Some (codes "c")) (Some 1)
+  pub required_null_page : statistics_at NonNullable texts 1 2 ≡ all_null 2
+  pub pages : pages_of 8 Nullable texts (record { offset = 4; size = 10; first_row = 0 } ∷ record { offset = 14; size = 5; first_row = 3 } ∷ record { offset = 19; size = 6; first_row = 5 } ∷ []) ≡ Ok text_pages
+  pub required_pages : pages_of 8 NonNullable texts (record { offset = 4; size = 10; first_row = 0 } ∷ record { offset = 14; size = 5; first_row = 3 } ∷ record { offset = 19; size = 6; first_row = 5 } ∷ []) ≡ Ok required_pages
+  pub by_the_schema : indexed 5 NonNullable (statistics_by NonNullable None) None None ≡ Ok (record { first = 0; end = 5; statistics = bounded None None (Some 0) } ∷ [])
+  pub not_by_the_schema : indexed 5 Nullable (statistics_by Nullable None) None None ≡ Ok (record { first = 0; end = 5; statistics = bounded None None None } ∷ [])
+  pub no_pages : pages_of 0 Nullable (record { null_pages = []; mins = []; maxes = []; null_counts = [] }) [] ≡ Ok []
+  pub no_pages_of_rows : pages_of 1 Nullable (record { null_pages = []; mins = []; maxes = []; null_counts = [] }) [] ≡ Err fault.Pages
+  pub unequal_lengths : pages_of 8 Nullable texts (record { offset = 4; size = 10; first_row = 0 } ∷ record { offset = 14; size = 5; first_row = 3 } ∷ []) ≡ Err fault.Pages
   pub unequal_nulls : has_length (record texts { null_pages = true ∷ true ∷ [] }) 3 ≡ false
   pub unequal_mins : has_length (record texts { mins = [] }) 3 ≡ false
   pub unequal_maxes : has_length (record texts { maxes = [] }) 3 ≡ false
   pub unequal_counts : has_length (record texts { null_counts = None ∷ [] }) 3 ≡ false
   pub no_counts : has_length (record texts { null_counts = [] }) 3 ≡ true
-  pub begins_late : pages_of 8 texts (record { offset = 4; size = 10; first_row = 1 } ∷ record { offset = 14; size = 5; first_row = 3 } ∷ record { offset = 19; size = 6; first_row = 5 } ∷ []) ≡ Err fault.Pages
-  pub stands_still : pages_of 8 texts (record { offset = 4; size = 10; first_row = 0 } ∷ record { offset = 14; size = 5; first_row = 3 } ∷ record { offset = 19; size = 6; first_row = 3 } ∷ []) ≡ Err fault.Pages
-  pub passes_the_rows : pages_of 5 texts (record { offset = 4; size = 10; first_row = 0 } ∷ record { offset = 14; size = 5; first_row = 3 } ∷ record { offset = 19; size = 6; first_row = 5 } ∷ []) ≡ Err fault.Pages
+  pub begins_late : pages_of 8 Nullable texts (record { offset = 4; size = 10; first_row = 1 } ∷ record { offset = 14; size = 5; first_row = 3 } ∷ record { offset = 19; size = 6; first_row = 5 } ∷ []) ≡ Err fault.Pages
+  pub stands_still : pages_of 8 Nullable texts (record { offset = 4; size = 10; first_row = 0 } ∷ record { offset = 14; size = 5; first_row = 3 } ∷ record { offset = 19; size = 6; first_row = 3 } ∷ []) ≡ Err fault.Pages
+  pub passes_the_rows : pages_of 5 Nullable texts (record { offset = 4; size = 10; first_row = 0 } ∷ record { offset = 14; size = 5; first_row = 3 } ∷ record { offset = 19; size = 6; first_row = 5 } ∷ []) ≡ Err fault.Pages
 
 -- pages one behind the other, and what those say of some of their rows
 pub record StretchExamples : Type 0 where

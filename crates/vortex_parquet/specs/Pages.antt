@@ -2,6 +2,7 @@
 use Rattle.std.specs.Prelude.{ℕ, ◌+◌, ◌-◌, Bool, true, false, not, ◌&&◌, ◌||◌, List, [], ◌∷◌, Option, Some, None, Result, Ok, Err, Contains, drop, length, nat_le, slice_get, take, ◌==◌, if◌then◌else◌}
 use Rattle.std.specs.List.{range_with_len}
 use Rattle.vortex_base.specs.declared.scalar_value.ScalarValue.{ScalarValue}
+use Rattle.vortex_base.specs.declared.types.Nullability.{Nullability}
 use Rattle.vortex_parquet.specs.declared.columns.Form.{Form}
 use Rattle.vortex_parquet.specs.declared.fault.Fault.{Fault}
 use Rattle.vortex_parquet.specs.declared.fault.Fault.TheVariants as fault
@@ -9,7 +10,7 @@ use Rattle.vortex_parquet.specs.declared.offset_index.PageLocation.{PageLocation
 use Rattle.vortex_parquet.specs.declared.pages.Page.{Page}
 use Rattle.vortex_parquet.specs.PageIndex.{IndexData}
 use Rattle.vortex_parquet.specs.Records.{StatisticsData, statistics_view}
-use Rattle.vortex_parquet.specs.Stats.{all_of, or_false}
+use Rattle.vortex_parquet.specs.Stats.{all_of, nulls_of, or_false}
 use Rattle.vortex_parquet.specs.Truth.{AreTrue}
 
 -- the rows from the first one on and before the end stand in the page
@@ -40,10 +41,10 @@ abbrev pub at_most : ℕ → Option ℕ → Option ℕ
 at_most rows None = None
 at_most rows (Some n) = if nat_le n rows then Some n else None
 
--- those of the page at a place, which has so many rows: of a null page the bounds say nothing, and each row is null
-abbrev pub statistics_at : IndexData → (place rows : ℕ) → StatisticsData
-statistics_at x i rows = if or_false (slice_get x.null_pages i) then all_null rows else
-    bounded (slice_get x.mins i) (slice_get x.maxes i) (at_most rows (or_none (slice_get x.null_counts i)))
+-- those of the page at a place, which has so many rows: of a null page the bounds say nothing, and each row is null; a page of a column that the schema has without nulls has none
+abbrev pub statistics_at : Nullability → IndexData → (place rows : ℕ) → StatisticsData
+statistics_at n x i rows = if or_false (slice_get x.null_pages i) then all_null rows else
+    bounded (slice_get x.mins i) (slice_get x.maxes i) (nulls_of n (at_most rows (or_none (slice_get x.null_counts i))))
 
 -- ---- rows
 
@@ -56,22 +57,22 @@ abbrev pub first_at : ℕ → List PageLocation → ℕ → ℕ
 first_at rows ls i = first_or rows (slice_get ls i)
 
 -- the page at a place, which ends where the next begins, and has a row at least
-unfoldable pub page_at : ℕ → IndexData → List PageLocation → ℕ → Result PageData Fault
-page_at rows x ls i = if nat_le (first_at rows ls (i + 1)) (first_at rows ls i) then Err fault.Pages else
-    Ok (record { first = first_at rows ls i; end = first_at rows ls (i + 1); statistics = statistics_at x i (first_at rows ls (i + 1) - first_at rows ls i) })
+unfoldable pub page_at : ℕ → Nullability → IndexData → List PageLocation → ℕ → Result PageData Fault
+page_at rows n x ls i = if nat_le (first_at rows ls (i + 1)) (first_at rows ls i) then Err fault.Pages else
+    Ok (record { first = first_at rows ls i; end = first_at rows ls (i + 1); statistics = statistics_at n x i (first_at rows ls (i + 1) - first_at rows ls i) })
 
 -- the page at each place
-abbrev pub pages_in : ℕ → IndexData → List PageLocation → Result (List PageData) Fault
-pages_in rows x ls = all_of (page_at rows x ls) (range_with_len 0 (length ls))
+abbrev pub pages_in : ℕ → Nullability → IndexData → List PageLocation → Result (List PageData) Fault
+pages_in rows n x ls = all_of (page_at rows n x ls) (range_with_len 0 (length ls))
 
 -- the index tells of so many pages: of their nulls too, if it tells of any
 abbrev pub has_length : IndexData → ℕ → Bool
 has_length x n = (length x.null_pages == n) && ((length x.mins == n) && ((length x.maxes == n) && ((length x.null_counts == 0) || (length x.null_counts == n))))
 
 -- the pages of a column chunk of so many rows: the first begins with the first row
-unfoldable pub pages_of : ℕ → IndexData → List PageLocation → Result (List PageData) Fault
-pages_of rows x ls = if not (has_length x (length ls)) then Err fault.Pages else (
-    if not (first_at rows ls 0 == 0) then Err fault.Pages else pages_in rows x ls)
+unfoldable pub pages_of : ℕ → Nullability → IndexData → List PageLocation → Result (List PageData) Fault
+pages_of rows n x ls = if not (has_length x (length ls)) then Err fault.Pages else (
+    if not (first_at rows ls 0 == 0) then Err fault.Pages else pages_in rows n x ls)
 
 -- ---- a column chunk without a page index
 

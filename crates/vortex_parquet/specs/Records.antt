@@ -1,5 +1,7 @@
 -- The records of a footer, as definitions over the fields of its structs.
-use Rattle.std.specs.Prelude.{ℕ, Bool, false, List, [], ◌∷◌, Option, Some, None, Result, Ok, Err, map, is_some, nat_le, option_copied, option_map, ◌&&◌, ◌==◌, ◌||◌, if◌then◌else◌}
+use Rattle.std.specs.Prelude.{ℕ, Bool, false, List, [], ◌∷◌, Option, Some, None, Result, Ok, Err, map, is_some, option_copied, option_map, ◌&&◌, ◌==◌, ◌||◌, if◌then◌else◌}
+use Rattle.vortex_logical.specs.declared.time_unit.TimeUnit.{TimeUnit}
+use Rattle.vortex_logical.specs.declared.time_unit.TimeUnit.TheVariants as unit
 use Rattle.vortex_parquet.specs.declared.fault.Fault.{Fault}
 use Rattle.vortex_parquet.specs.declared.fault.Fault.TheVariants as fault
 use Rattle.vortex_parquet.specs.declared.compact.Kind.TheVariants as kind
@@ -12,7 +14,7 @@ use Rattle.vortex_parquet.specs.declared.records.SchemaElement.{SchemaElement}
 use Rattle.vortex_parquet.specs.declared.records.FileMetaData.{FileMetaData}
 use Rattle.vortex_parquet.specs.Reading.{◌>>=◌, Read}
 use Rattle.vortex_parquet.specs.Skip.{FieldData}
-use Rattle.vortex_parquet.specs.Fields.{ItemsData, binary_in, byte_in, found, is_told, items_in, items_view, kind_eq, many, natural_in, number_in, on_found, spans_in, struct_of}
+use Rattle.vortex_parquet.specs.Fields.{ItemsData, binary_in, byte_in, found, is_told, items_in, items_view, kind_eq, many, natural_in, number_in, on_found, spans_in, struct_of, truth_in}
 
 -- ---- the records, without where their bytes lie
 
@@ -29,7 +31,7 @@ pub record ColumnChunkData : Type 0 where
   pub physical : Option ℕ
   pub statistics : Option StatisticsData
 
--- how many rows a row group has, how many bytes it takes in the file, and the bytes from each of its column chunks on
+-- how many rows a row group has, how many bytes it is told to take in the file, and the bytes from each of its column chunks on
 pub record RowGroupData : Type 0 where
   pub rows : ℕ
   pub size : Option ℕ
@@ -118,6 +120,13 @@ meta_of bytes = do
 unfoldable pub chunk_of : List ℕ → Result ColumnChunkData Fault
 chunk_of bytes = struct_of bytes >>= λ s. on_found (Ok (record { physical = None; statistics = None })) meta_of (found s.0 3 kind.Struct)
 
+-- how many bytes a column chunk takes in the file, if its metadata tells it
+unfoldable pub meta_size : List ℕ → Result (Option ℕ) Fault
+meta_size bytes = struct_of bytes >>= λ s. natural_in s.0 7 kind.I64
+
+unfoldable pub chunk_size : List ℕ → Result (Option ℕ) Fault
+chunk_size bytes = struct_of bytes >>= λ s. on_found (Ok None) meta_size (found s.0 3 kind.Struct)
+
 -- the bytes from each struct on of a list in a field
 unfoldable pub spans_of : List FieldData → ℕ → Result (List (List ℕ)) Fault
 spans_of fs id = items_in fs id kind.Struct >>= λ l. spans_in l.count l.from
@@ -144,18 +153,41 @@ abbrev pub is_number : ℕ → Option ℕ → Bool
 is_number n None = false
 is_number n (Some m) = m == n
 
--- decimals of at most 18 digits fit 64 bits
-abbrev pub is_short : Option ℕ → Bool
-is_short None = false
-is_short (Some n) = nat_le n 18
-
--- struct DecimalType: whether the scale is 0, and whether each decimal fits 64 bits
+-- struct DecimalType
 unfoldable pub decimal_of : List ℕ → Result Annotation Fault
 decimal_of bytes = do
   s ← struct_of bytes
-  scale ← number_in s.0 1 kind.I32
+  scale ← natural_in s.0 1 kind.I32
   precision ← natural_in s.0 2 kind.I32
-  Ok (annotation.Decimal (is_number 0 scale) (is_short precision))
+  Ok (annotation.Decimal scale precision)
+
+-- union TimeUnit: which field it has
+abbrev pub unit_from : List FieldData → Option TimeUnit
+unit_from [] = None
+unit_from (f ∷ fs) =
+    if f.id == 1 then Some unit.Milliseconds else (
+    if f.id == 2 then Some unit.Microseconds else (
+    if f.id == 3 then Some unit.Nanoseconds else None))
+
+unfoldable pub unit_at : List ℕ → Result (Option TimeUnit) Fault
+unit_at bytes = struct_of bytes >>= λ s. Ok (unit_from s.0)
+
+unfoldable pub unit_in : List FieldData → ℕ → Result (Option TimeUnit) Fault
+unit_in fs id = on_found (Ok None) unit_at (found fs id kind.Struct)
+
+-- struct TimeType: its unit
+unfoldable pub time_of : List ℕ → Result Annotation Fault
+time_of bytes = do
+  s ← struct_of bytes
+  unit ← unit_in s.0 2
+  Ok (annotation.Time unit)
+
+-- struct TimestampType: whether it is adjusted to UTC, and its unit
+unfoldable pub timestamp_of : List ℕ → Result Annotation Fault
+timestamp_of bytes = do
+  s ← struct_of bytes
+  unit ← unit_in s.0 2
+  Ok (annotation.Timestamp (truth_in s.0 1) unit)
 
 -- union LogicalType: which field it has
 unfoldable pub annotation_from : List FieldData → Result Annotation Fault
@@ -163,9 +195,11 @@ annotation_from [] = Ok annotation.None
 annotation_from (f ∷ fs) =
     if (f.id == 1) || (f.id == 4) || (f.id == 12) then Ok annotation.Text else (
     if (f.id == 5) && kind_eq f.kind kind.Struct then decimal_of f.from else (
-    if (f.id == 6) || (f.id == 7) || (f.id == 8) then Ok annotation.Time else (
+    if (f.id == 6) && kind_eq f.kind kind.Struct then Ok annotation.Date else (
+    if (f.id == 7) && kind_eq f.kind kind.Struct then time_of f.from else (
+    if (f.id == 8) && kind_eq f.kind kind.Struct then timestamp_of f.from else (
     if (f.id == 10) && kind_eq f.kind kind.Struct then integer_of f.from else (
-    if (f.id == 13) || (f.id == 14) then Ok annotation.Bytes else Ok annotation.Other))))
+    if (f.id == 13) || (f.id == 14) then Ok annotation.Bytes else Ok annotation.Other))))))
 
 unfoldable pub annotation_at : List ℕ → Result Annotation Fault
 annotation_at bytes = struct_of bytes >>= λ s. annotation_from s.0

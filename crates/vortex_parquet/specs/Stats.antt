@@ -1,11 +1,14 @@
 -- Sets of statistics from the statistics of a footer.
-use Rattle.std.specs.Prelude.{ℕ, ◌^◌, ◌-◌, ℤ, pos, negsuc, int_le, Bool, true, false, ◌&&◌, List, [], ◌∷◌, length, Option, Some, None, Result, Ok, Err, is_some, slice_get, slice_index, nat_lt, ◌==◌, if◌then◌else◌}
+use Rattle.std.specs.Prelude.{ℕ, ◌^◌, ◌-◌, ℤ, pos, negsuc, int_le, Bool, true, false, ◌&&◌, List, [], ◌∷◌, length, Option, Some, None, Result, Ok, Err, is_some, slice_get, slice_index, nat_lt, sum_by, ◌==◌, if◌then◌else◌}
 use Rattle.std.specs.Int.{w32, w64, from_le_bytes, cast_signed}
+use Rattle.std.specs.List.{list_all}
 use Rattle.std.specs.Str.{is_utf8}
 use Rattle.vortex_base.specs.declared.pvalue.PValue.{PValue}
 use Rattle.vortex_base.specs.declared.pvalue.PValue.TheVariants as number
 use Rattle.vortex_base.specs.declared.scalar_value.ScalarValue.{ScalarValue}
 use Rattle.vortex_base.specs.declared.scalar_value.ScalarValue.TheVariants as value
+use Rattle.vortex_base.specs.declared.types.Nullability.{Nullability}
+use Rattle.vortex_base.specs.declared.types.Nullability.TheVariants.{Nullable, NonNullable}
 use Rattle.vortex_base.specs.declared.types.PType.{PType}
 use Rattle.vortex_base.specs.declared.types.PType.TheVariants as ptype
 use Rattle.vortex_stats.specs.declared.precision.Precision.{Precision}
@@ -21,7 +24,7 @@ use Rattle.vortex_parquet.specs.declared.stats.GroupStats.{GroupStats}
 use Rattle.vortex_parquet.specs.declared.columns.Leaf.{Leaf}
 use Rattle.vortex_parquet.specs.Reading.{◌>>=◌, Read}
 use Rattle.vortex_parquet.specs.Fields.{many, on_found}
-use Rattle.vortex_parquet.specs.Records.{ColumnChunkData, FileData, RowGroupData, StatisticsData, chunk_of, is_number, row_group_of}
+use Rattle.vortex_parquet.specs.Records.{ColumnChunkData, FileData, RowGroupData, StatisticsData, chunk_of, chunk_size, is_number, row_group_of}
 use Rattle.vortex_parquet.specs.Columns.{is_signed}
 use Rattle.vortex_parquet.specs.Decimals.{number_of}
 
@@ -129,9 +132,28 @@ abbrev pub set_or_none : Form → Bool → Option StatisticsData → Entries
 set_or_none f ordered None = []
 set_or_none f ordered (Some s) = set_of f ordered s
 
+-- the number of nulls, as it is told, and 0 where it isn't told of a column that the schema has without nulls
+abbrev pub nulls_of : Nullability → Option ℕ → Option ℕ
+nulls_of n (Some k) = Some k
+nulls_of NonNullable None = Some 0
+nulls_of Nullable None = None
+
+abbrev pub with_nulls : Nullability → StatisticsData → StatisticsData
+with_nulls n s = record s { null_count = nulls_of n s.null_count }
+
+-- no bounds, and no nulls
+abbrev pub without_nulls : StatisticsData
+without_nulls = record { old_max = None; old_min = None; null_count = Some 0; max = None; min = None; is_max_exact = false; is_min_exact = false }
+
+-- the statistics of a column chunk, as they are told and by the schema
+abbrev pub statistics_by : Nullability → Option StatisticsData → Option StatisticsData
+statistics_by n (Some s) = Some (with_nulls n s)
+statistics_by NonNullable None = Some without_nulls
+statistics_by Nullable None = None
+
 -- the set of a column chunk, without an entry where that is told to be of another physical type
 unfoldable pub chunk_set : Leaf → Bool → ColumnChunkData → Entries
-chunk_set l ordered c = if is_number l.physical c.physical then set_or_none l.form ordered c.statistics else []
+chunk_set l ordered c = if is_number l.physical c.physical then set_or_none l.form ordered (statistics_by l.nullability c.statistics) else []
 
 abbrev pub or_false : Option Bool → Bool
 or_false None = false
@@ -150,6 +172,23 @@ unfoldable pub all_of : {A B : Type 0} → (B → Result A Fault) → List B →
 all_of one [] = Ok []
 all_of one (item ∷ others) = one item >>= λ x. all_of one others >>= λ xs. Ok (x ∷ xs)
 
+-- ---- sizes
+
+abbrev pub or_zero : Option ℕ → ℕ
+or_zero None = 0
+or_zero (Some n) = n
+
+-- sizes together, if each is told and their sum fits 64 bits
+abbrev pub sum_of : List (Option ℕ) → Option ℕ
+sum_of os = if list_all is_some os && nat_lt (sum_by or_zero os) (2 ^ 64) then Some (sum_by or_zero os) else None
+
+-- how many bytes a row group takes in the file: as it is told, and else as many as its column chunks take together, if that is told
+unfoldable pub size_of : Option ℕ → List (List ℕ) → Result (Option ℕ) Fault
+size_of (Some n) columns = Ok (Some n)
+size_of None columns = all_of chunk_size columns >>= λ os. Ok (sum_of os)
+
+-- ---- row groups
+
 -- how many rows a row group has, how many bytes it takes, and a set for each leaf column that is read
 pub record GroupData : Type 0 where
   pub rows : ℕ
@@ -162,7 +201,7 @@ group_view g = record { rows = g.rows; size = g.size; stats = g.stats.items }
 -- what is known of a row group, of a file with so many leaf columns
 unfoldable pub group_of : List Leaf → ℕ → List Bool → RowGroupData → Result GroupData Fault
 group_of leaves count orders g =
-    if length g.columns == count then (all_of (leaf_set orders g.columns) leaves >>= λ sets. Ok (record { rows = g.rows; size = g.size; stats = sets })) else Err fault.Columns
+    if length g.columns == count then (all_of (leaf_set orders g.columns) leaves >>= λ sets. size_of g.size g.columns >>= λ size. Ok (record { rows = g.rows; size = size; stats = sets })) else Err fault.Columns
 
 -- the same of the row group with which the bytes begin, and the bytes behind it
 unfoldable pub group_at : List Leaf → ℕ → List Bool → List ℕ → Read GroupData

@@ -2,6 +2,7 @@
 use Rattle.std.specs.Prelude.{◌≡◌, ◌≤◌, ◌<◌, ◌⊎◌, ℕ, ◌+◌, ◌-◌, Bool, true, false, ◌&&◌, ◌||◌, List, [], ◌∷◌, Option, Some, None, Ok, Contains, IsTrue, length, map, nat_lt, ◌==◌, if◌then◌else◌, ⊤}
 use Rattle.std.specs.List.{list_all}
 use Rattle.vortex_base.specs.Data.Columns.{ColumnData}
+use Rattle.vortex_base.specs.declared.types.Nullability.{Nullability}
 use Rattle.vortex_parquet.specs.declared.columns.Form.{Form}
 use Rattle.vortex_parquet.specs.declared.fault.Fault.TheVariants as fault
 use Rattle.vortex_parquet.specs.declared.fault.ReadError.{ReadError}
@@ -37,7 +38,7 @@ all_follow rows cs = list_all (λ c. follow 0 rows c.pages) cs
 
 -- the pages of a column chunk do
 abbrev pub PagesFollow : Type 0
-PagesFollow = (rows : ℕ) (x : IndexData) (ls : List PageLocation) (ps : List PageData) → pages_of rows x ls ≡ Ok ps → follow 0 rows ps ≡ true
+PagesFollow = (rows : ℕ) (n : Nullability) (x : IndexData) (ls : List PageLocation) (ps : List PageData) → pages_of rows n x ls ≡ Ok ps → follow 0 rows ps ≡ true
 
 -- ---- what a page's statistics say of some of its rows
 

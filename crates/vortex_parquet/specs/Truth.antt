@@ -8,7 +8,7 @@ use Rattle.vortex_parquet.specs.declared.columns.Form.{Form}
 use Rattle.vortex_parquet.specs.declared.columns.Leaf.{Leaf}
 use Rattle.vortex_parquet.specs.Records.{ColumnChunkData, FileData, RowGroupData, StatisticsData, chunk_of, is_number, row_groups_of}
 use Rattle.vortex_parquet.specs.Columns.{is_signed}
-use Rattle.vortex_parquet.specs.Stats.{Entries, GroupData, all_of, group_of, groups_of, leaf_set, or_false, value_of}
+use Rattle.vortex_parquet.specs.Stats.{Entries, GroupData, all_of, group_of, groups_of, leaf_set, or_false, statistics_by, value_of}
 
 -- The statistics are true of the values of a column: the bounds in the order of its type, which they are in only where it is told so; the deprecated ones in that of signed numbers; a bound that is told to be exact is one of the values.
 pub record AreTrue (f : Form) (ordered : Bool) (s : StatisticsData) (xs : List (Option ScalarValue)) : Type 0 where
@@ -18,10 +18,10 @@ pub record AreTrue (f : Form) (ordered : Bool) (s : StatisticsData) (xs : List (
   pub old_min : is_signed f ≡ true → (b : List ℕ) (v : ScalarValue) → s.old_min ≡ Some b → value_of f b ≡ Some v → NoneBelow v xs
   pub null_count : (n : ℕ) → s.null_count ≡ Some n → null_count xs ≡ n
 
--- those of the column chunk with which the bytes begin, if it is there, has statistics and is of the schema's physical type
+-- those of the column chunk with which the bytes begin, if it is there, has statistics and is of the schema's physical type; of a column that the schema has without nulls, that it has none is one of them
 abbrev pub AreTrueOf : Leaf → Bool → Option (List ℕ) → List (Option ScalarValue) → Type 0
 AreTrueOf l ordered None xs = ⊤
-AreTrueOf l ordered (Some bytes) xs = (c : ColumnChunkData) (s : StatisticsData) → chunk_of bytes ≡ Ok c → is_number l.physical c.physical ≡ true → c.statistics ≡ Some s → AreTrue l.form ordered s xs
+AreTrueOf l ordered (Some bytes) xs = (c : ColumnChunkData) (s : StatisticsData) → chunk_of bytes ≡ Ok c → is_number l.physical c.physical ≡ true → statistics_by l.nullability c.statistics ≡ Some s → AreTrue l.form ordered s xs
 
 -- those of each leaf column that is read of a row group, beside the columns of its rows
 abbrev pub IsTrueGroup : List Bool → List (List ℕ) → List Leaf → List ColumnData → Type 0

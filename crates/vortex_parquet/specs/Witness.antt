@@ -11,6 +11,7 @@ use Rattle.vortex_stats.specs.declared.stat.Stat.TheVariants.{Max, Min, NullCoun
 use Rattle.vortex_parquet.specs.declared.columns.Content.TheVariants as content
 use Rattle.vortex_parquet.specs.declared.columns.Form.TheVariants as form
 use Rattle.vortex_parquet.specs.declared.columns.Leaf.{Leaf}
+use Rattle.vortex_parquet.specs.declared.meaning.LeafMeaning.TheVariants as meaning
 use Rattle.vortex_parquet.specs.Columns.{columns_of}
 use Rattle.vortex_parquet.specs.Records.{ColumnChunkData, ElementData, FileData, RowGroupData, StatisticsData, chunk_of, file_of, row_groups_of}
 use Rattle.vortex_parquet.specs.Stats.{Entries, groups_of}
@@ -42,7 +43,7 @@ abbrev pub chunk : ColumnChunkData
 chunk = record { physical = Some 1; statistics = Some statistics }
 
 abbrev pub leaf : Leaf
-leaf = record { place = 0; physical = 1; form = form.Four ptype.I32; is_raw = false; nullability = Nullable }
+leaf = record { place = 0; physical = 1; form = form.Four ptype.I32; meaning = meaning.Plain; nullability = Nullable }
 
 abbrev pub rows : ColumnData
 rows = record { dtype = dtype.Primitive ptype.I32 Nullable; values = Some (value.Primitive (number.I32 (pos 3))) ∷ None ∷ Some (value.Primitive (number.I32 (pos 7))) ∷ []; size = 0 }

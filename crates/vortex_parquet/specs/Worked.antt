@@ -1,9 +1,10 @@
 -- Worked rows of footers: the grammar, the records, the table of types, the choice of bounds and the columns.
-use Rattle.std.specs.Prelude.{◌≡◌, ◌^◌, ◌-◌, pos, negsuc, true, false, [], ◌∷◌, Some, None, Ok, Err, codes}
+use Rattle.std.specs.Prelude.{◌≡◌, ℕ, ◌^◌, ◌-◌, pos, negsuc, true, false, List, [], ◌∷◌, Some, None, Ok, Err, codes}
 use Rattle.vortex_base.specs.declared.pvalue.PValue.TheVariants as number
 use Rattle.vortex_base.specs.declared.scalar_value.ScalarValue.TheVariants as value
 use Rattle.vortex_base.specs.declared.types.Nullability.TheVariants.{Nullable, NonNullable}
 use Rattle.vortex_base.specs.declared.types.PType.TheVariants as ptype
+use Rattle.vortex_logical.specs.declared.time_unit.TimeUnit.TheVariants as unit
 use Rattle.vortex_stats.specs.declared.precision.Precision.TheVariants.{Exact, Inexact, Absent}
 use Rattle.vortex_stats.specs.declared.stat.Stat.TheVariants.{Max, Min, NullCount}
 use Rattle.vortex_parquet.specs.declared.columns.Content.TheVariants as content
@@ -11,14 +12,15 @@ use Rattle.vortex_parquet.specs.declared.columns.Form.TheVariants as form
 use Rattle.vortex_parquet.specs.declared.columns.LeftOut.TheVariants as left_out
 use Rattle.vortex_parquet.specs.declared.compact.Kind.TheVariants as kind
 use Rattle.vortex_parquet.specs.declared.fault.Fault.TheVariants as fault
+use Rattle.vortex_parquet.specs.declared.meaning.LeafMeaning.TheVariants as meaning
 use Rattle.vortex_parquet.specs.declared.records.Annotation.TheVariants as annotation
 use Rattle.vortex_parquet.specs.Compact.{binary_at, head_at, items_at, map_at, natural_at, varint_at}
-use Rattle.vortex_parquet.specs.Columns.{annotation_of, columns_of, converted, form_of, is_raw, leaf_of, lookup, nullability}
+use Rattle.vortex_parquet.specs.Columns.{annotation_of, columns_of, converted, form_of, lookup, nullability}
 use Rattle.vortex_parquet.specs.Fields.{found, struct_of}
 use Rattle.vortex_parquet.specs.Footer.{footer_of, length_of}
-use Rattle.vortex_parquet.specs.Records.{annotation_at, element_of, statistics_of}
+use Rattle.vortex_parquet.specs.Records.{annotation_at, chunk_size, element_of, order_of, statistics_of}
 use Rattle.vortex_parquet.specs.Skip.{skip_at}
-use Rattle.vortex_parquet.specs.Stats.{bound_of, chosen, chunk_set, count_of, set_of, value_of}
+use Rattle.vortex_parquet.specs.Stats.{bound_of, chosen, chunk_set, count_of, group_of, set_of, size_of, sum_of, value_of}
 
 -- numbers, strings, heads, values and fields of the compact protocol, and where a footer stands
 pub record GrammarExamples : Type 0 where
@@ -87,8 +89,10 @@ pub record TableExamples : Type 0 where
   pub truths : form_of 0 annotation.None ≡ Some form.Bool
   pub truths_annotated : form_of 0 annotation.Text ≡ None
   pub numbers : form_of 1 annotation.None ≡ Some (form.Four ptype.I32)
-  pub decimals : form_of 1 (annotation.Decimal false false) ≡ Some (form.Four ptype.I32)
-  pub times : form_of 1 annotation.Time ≡ Some (form.Four ptype.I32)
+  pub decimals : form_of 1 (annotation.Decimal None None) ≡ Some (form.Four ptype.I32)
+  pub dates : form_of 1 annotation.Date ≡ Some (form.Four ptype.I32)
+  pub times : form_of 1 (annotation.Time None) ≡ Some (form.Four ptype.I32)
+  pub timestamps : form_of 1 (annotation.Timestamp None None) ≡ Some (form.Four ptype.I32)
   pub numbers_i8 : form_of 1 (annotation.Integer 8 true) ≡ Some (form.Four ptype.I8)
   pub numbers_u8 : form_of 1 (annotation.Integer 8 false) ≡ Some (form.Four ptype.U8)
   pub numbers_i16 : form_of 1 (annotation.Integer 16 true) ≡ Some (form.Four ptype.I16)
@@ -99,8 +103,10 @@ pub record TableExamples : Type 0 where
   pub numbers_as_text : form_of 1 annotation.Text ≡ None
   pub numbers_otherwise : form_of 1 annotation.Other ≡ None
   pub long_numbers : form_of 2 annotation.None ≡ Some (form.Eight ptype.I64)
-  pub long_decimals : form_of 2 (annotation.Decimal false false) ≡ Some (form.Eight ptype.I64)
-  pub long_times : form_of 2 annotation.Time ≡ Some (form.Eight ptype.I64)
+  pub long_decimals : form_of 2 (annotation.Decimal None None) ≡ Some (form.Eight ptype.I64)
+  pub long_dates : form_of 2 annotation.Date ≡ Some (form.Eight ptype.I64)
+  pub long_times : form_of 2 (annotation.Time None) ≡ Some (form.Eight ptype.I64)
+  pub long_timestamps : form_of 2 (annotation.Timestamp None None) ≡ Some (form.Eight ptype.I64)
   pub long_signed : form_of 2 (annotation.Integer 64 true) ≡ Some (form.Eight ptype.I64)
   pub long_unsigned : form_of 2 (annotation.Integer 64 false) ≡ Some (form.Eight ptype.U64)
   pub numbers_of_32_bits_in_eight : form_of 2 (annotation.Integer 32 false) ≡ None
@@ -110,32 +116,39 @@ pub record TableExamples : Type 0 where
   pub bytes : form_of 6 annotation.None ≡ Some form.Binary
   pub texts : form_of 6 annotation.Text ≡ Some form.Utf8
   pub bson : form_of 6 annotation.Bytes ≡ Some form.Binary
-  pub decimals_in_bytes : form_of 6 (annotation.Decimal false true) ≡ Some form.Decimal
-  pub whole_decimals_in_bytes : form_of 6 (annotation.Decimal true true) ≡ Some form.Decimal
-  pub long_decimals_in_bytes : form_of 6 (annotation.Decimal true false) ≡ None
+  pub decimals_in_bytes : form_of 6 (annotation.Decimal (Some 20) (Some 18)) ≡ Some form.Decimal
+  pub decimals_in_bytes_without_scale : form_of 6 (annotation.Decimal None (Some 18)) ≡ Some form.Decimal
+  pub whole_decimals_in_bytes : form_of 6 (annotation.Decimal (Some 0) (Some 1)) ≡ Some form.Decimal
+  pub long_decimals_in_bytes : form_of 6 (annotation.Decimal (Some 0) (Some 19)) ≡ None
+  pub untold_decimals_in_bytes : form_of 6 (annotation.Decimal (Some 0) None) ≡ None
+  pub dates_in_bytes : form_of 6 annotation.Date ≡ None
+  pub times_in_bytes : form_of 6 (annotation.Time None) ≡ None
+  pub timestamps_in_bytes : form_of 6 (annotation.Timestamp None None) ≡ None
   pub fixed : form_of 7 annotation.None ≡ Some form.Binary
   pub uuids : form_of 7 annotation.Bytes ≡ Some form.Binary
   pub fixed_texts : form_of 7 annotation.Text ≡ None
-  pub fixed_decimals : form_of 7 (annotation.Decimal false true) ≡ Some form.Decimal
-  pub long_fixed_decimals : form_of 7 (annotation.Decimal false false) ≡ None
+  pub fixed_decimals : form_of 7 (annotation.Decimal (Some 20) (Some 18)) ≡ Some form.Decimal
+  pub long_fixed_decimals : form_of 7 (annotation.Decimal (Some 0) (Some 19)) ≡ None
+  pub untold_fixed_decimals : form_of 7 (annotation.Decimal (Some 0) None) ≡ None
   pub no_type : form_of 8 annotation.None ≡ None
   pub newer_wins : annotation_of (Some annotation.Text) (Some 5) None None ≡ annotation.Text
   pub newer_unknown_wins : annotation_of (Some annotation.Other) (Some 0) None None ≡ annotation.Other
   pub newer_empty : annotation_of (Some annotation.None) (Some 0) None None ≡ annotation.Text
-  pub older_alone : annotation_of None (Some 5) (Some 4) None ≡ annotation.Decimal false false
-  pub older_decimals : annotation_of None (Some 5) (Some 4) (Some 9) ≡ annotation.Decimal false true
+  pub older_alone : annotation_of None (Some 5) (Some 4) None ≡ annotation.Decimal (Some 2) None
+  pub older_decimals : annotation_of None (Some 5) (Some 4) (Some 9) ≡ annotation.Decimal (Some 2) (Some 9)
+  pub newer_unit_wins : annotation_of (Some (annotation.Timestamp (Some false) (Some unit.Nanoseconds))) (Some 9) None None ≡ annotation.Timestamp (Some false) (Some unit.Nanoseconds)
   pub neither : annotation_of None None None None ≡ annotation.None
   pub older_0 : converted 0 None None ≡ annotation.Text
   pub older_1 : converted 1 None None ≡ annotation.Other
   pub older_2 : converted 2 None None ≡ annotation.Other
   pub older_3 : converted 3 None None ≡ annotation.Other
   pub older_4 : converted 4 None None ≡ annotation.Text
-  pub older_5 : converted 5 None None ≡ annotation.Decimal true false
-  pub older_6 : converted 6 None None ≡ annotation.Time
-  pub older_7 : converted 7 None None ≡ annotation.Time
-  pub older_8 : converted 8 None None ≡ annotation.Time
-  pub older_9 : converted 9 None None ≡ annotation.Time
-  pub older_10 : converted 10 None None ≡ annotation.Time
+  pub older_5 : converted 5 None None ≡ annotation.Decimal (Some 0) None
+  pub older_6 : converted 6 None None ≡ annotation.Date
+  pub older_7 : converted 7 None None ≡ annotation.Time (Some unit.Milliseconds)
+  pub older_8 : converted 8 None None ≡ annotation.Time (Some unit.Microseconds)
+  pub older_9 : converted 9 None None ≡ annotation.Timestamp (Some true) (Some unit.Milliseconds)
+  pub older_10 : converted 10 None None ≡ annotation.Timestamp (Some true) (Some unit.Microseconds)
   pub older_11 : converted 11 None None ≡ annotation.Integer 8 false
   pub older_12 : converted 12 None None ≡ annotation.Integer 16 false
   pub older_13 : converted 13 None None ≡ annotation.Integer 32 false
@@ -155,23 +168,37 @@ pub record TableExamples : Type 0 where
   pub newer_2 : annotation_at (44 ∷ 0 ∷ 0 ∷ []) ≡ Ok annotation.Other
   pub newer_3 : annotation_at (60 ∷ 0 ∷ 0 ∷ []) ≡ Ok annotation.Other
   pub newer_4 : annotation_at (76 ∷ 0 ∷ 0 ∷ []) ≡ Ok annotation.Text
-  pub newer_5_whole : annotation_at (92 ∷ 21 ∷ 0 ∷ 0 ∷ 0 ∷ []) ≡ Ok (annotation.Decimal true false)
-  pub newer_5_fraction : annotation_at (92 ∷ 21 ∷ 4 ∷ 0 ∷ 0 ∷ []) ≡ Ok (annotation.Decimal false false)
-  pub newer_5_without_scale : annotation_at (92 ∷ 0 ∷ 0 ∷ []) ≡ Ok (annotation.Decimal false false)
-  pub newer_5_of_18_digits : annotation_at (92 ∷ 21 ∷ 4 ∷ 21 ∷ 36 ∷ 0 ∷ 0 ∷ []) ≡ Ok (annotation.Decimal false true)
-  pub newer_5_of_19_digits : annotation_at (92 ∷ 21 ∷ 0 ∷ 21 ∷ 38 ∷ 0 ∷ 0 ∷ []) ≡ Ok (annotation.Decimal true false)
-  pub older_5_fraction : converted 5 (Some 4) None ≡ annotation.Decimal false false
-  pub older_5_scale_0 : converted 5 (Some 0) None ≡ annotation.Decimal true false
-  pub older_5_of_18_digits : converted 5 (Some 4) (Some 18) ≡ annotation.Decimal false true
-  pub older_5_of_19_digits : converted 5 None (Some 19) ≡ annotation.Decimal true false
-  pub raw_times : is_raw annotation.Time ≡ true
-  pub raw_fractions : is_raw (annotation.Decimal false false) ≡ true
-  pub raw_short_fractions : is_raw (annotation.Decimal false true) ≡ true
-  pub plain_decimals : is_raw (annotation.Decimal true false) ≡ false
-  pub plain_numbers : is_raw annotation.None ≡ false
-  pub newer_6 : annotation_at (108 ∷ 0 ∷ 0 ∷ []) ≡ Ok annotation.Time
-  pub newer_7 : annotation_at (124 ∷ 0 ∷ 0 ∷ []) ≡ Ok annotation.Time
-  pub newer_8 : annotation_at (140 ∷ 0 ∷ 0 ∷ []) ≡ Ok annotation.Time
+  pub newer_5_whole : annotation_at (92 ∷ 21 ∷ 0 ∷ 0 ∷ 0 ∷ []) ≡ Ok (annotation.Decimal (Some 0) None)
+  pub newer_5_fraction : annotation_at (92 ∷ 21 ∷ 4 ∷ 0 ∷ 0 ∷ []) ≡ Ok (annotation.Decimal (Some 2) None)
+  pub newer_5_below_0 : annotation_at (92 ∷ 21 ∷ 3 ∷ 0 ∷ 0 ∷ []) ≡ Ok (annotation.Decimal None None)
+  pub newer_5_without_scale : annotation_at (92 ∷ 37 ∷ 18 ∷ 0 ∷ 0 ∷ []) ≡ Ok (annotation.Decimal None (Some 9))
+  pub newer_5_of_18_digits : annotation_at (92 ∷ 21 ∷ 4 ∷ 21 ∷ 36 ∷ 0 ∷ 0 ∷ []) ≡ Ok (annotation.Decimal (Some 2) (Some 18))
+  pub newer_5_of_19_digits : annotation_at (92 ∷ 21 ∷ 0 ∷ 21 ∷ 38 ∷ 0 ∷ 0 ∷ []) ≡ Ok (annotation.Decimal (Some 0) (Some 19))
+  pub older_5_fraction : converted 5 (Some 4) None ≡ annotation.Decimal (Some 2) None
+  pub older_5_below_0 : converted 5 (Some 3) None ≡ annotation.Decimal None None
+  pub older_5_scale_0 : converted 5 (Some 0) None ≡ annotation.Decimal (Some 0) None
+  pub older_5_of_18_digits : converted 5 (Some 4) (Some 18) ≡ annotation.Decimal (Some 2) (Some 18)
+  pub older_5_of_19_digits : converted 5 None (Some 19) ≡ annotation.Decimal (Some 0) (Some 19)
+  pub newer_6 : annotation_at (108 ∷ 0 ∷ 0 ∷ []) ≡ Ok annotation.Date
+  pub newer_6_of_another_kind : annotation_at (101 ∷ 0 ∷ 0 ∷ []) ≡ Ok annotation.Other
+  pub newer_7 : annotation_at (124 ∷ 0 ∷ 0 ∷ []) ≡ Ok (annotation.Time None)
+  pub newer_7_milliseconds : annotation_at (124 ∷ 17 ∷ 28 ∷ 28 ∷ 0 ∷ 0 ∷ 0 ∷ 0 ∷ []) ≡ Ok (annotation.Time (Some unit.Milliseconds))
+  pub newer_7_microseconds : annotation_at (124 ∷ 18 ∷ 28 ∷ 44 ∷ 0 ∷ 0 ∷ 0 ∷ 0 ∷ []) ≡ Ok (annotation.Time (Some unit.Microseconds))
+  pub newer_7_nanoseconds : annotation_at (124 ∷ 17 ∷ 28 ∷ 60 ∷ 0 ∷ 0 ∷ 0 ∷ 0 ∷ []) ≡ Ok (annotation.Time (Some unit.Nanoseconds))
+  pub newer_7_of_no_unit : annotation_at (124 ∷ 17 ∷ 28 ∷ 76 ∷ 0 ∷ 0 ∷ 0 ∷ 0 ∷ []) ≡ Ok (annotation.Time None)
+  pub newer_7_of_another_kind : annotation_at (117 ∷ 0 ∷ 0 ∷ []) ≡ Ok annotation.Other
+  pub newer_8 : annotation_at (140 ∷ 0 ∷ 0 ∷ []) ≡ Ok (annotation.Timestamp None None)
+  pub newer_8_milliseconds : annotation_at (140 ∷ 17 ∷ 28 ∷ 28 ∷ 0 ∷ 0 ∷ 0 ∷ 0 ∷ []) ≡ Ok (annotation.Timestamp (Some true) (Some unit.Milliseconds))
+  pub newer_8_microseconds : annotation_at (140 ∷ 17 ∷ 28 ∷ 44 ∷ 0 ∷ 0 ∷ 0 ∷ 0 ∷ []) ≡ Ok (annotation.Timestamp (Some true) (Some unit.Microseconds))
+  pub newer_8_nanoseconds : annotation_at (140 ∷ 17 ∷ 28 ∷ 60 ∷ 0 ∷ 0 ∷ 0 ∷ 0 ∷ []) ≡ Ok (annotation.Timestamp (Some true) (Some unit.Nanoseconds))
+  pub newer_8_not_adjusted : annotation_at (140 ∷ 18 ∷ 28 ∷ 28 ∷ 0 ∷ 0 ∷ 0 ∷ 0 ∷ []) ≡ Ok (annotation.Timestamp (Some false) (Some unit.Milliseconds))
+  pub newer_8_untold : annotation_at (140 ∷ 44 ∷ 28 ∷ 0 ∷ 0 ∷ 0 ∷ 0 ∷ []) ≡ Ok (annotation.Timestamp None (Some unit.Milliseconds))
+  pub newer_8_told_both : annotation_at (140 ∷ 17 ∷ 2 ∷ 2 ∷ 28 ∷ 28 ∷ 0 ∷ 0 ∷ 0 ∷ 0 ∷ []) ≡ Ok (annotation.Timestamp None (Some unit.Milliseconds))
+  pub newer_8_without_unit : annotation_at (140 ∷ 17 ∷ 0 ∷ 0 ∷ []) ≡ Ok (annotation.Timestamp (Some true) None)
+  pub newer_8_unit_of_another_kind : annotation_at (140 ∷ 17 ∷ 21 ∷ 2 ∷ 0 ∷ 0 ∷ []) ≡ Ok (annotation.Timestamp (Some true) None)
+  pub newer_8_first_unit : annotation_at (140 ∷ 17 ∷ 28 ∷ 44 ∷ 0 ∷ 28 ∷ 0 ∷ 0 ∷ 0 ∷ 0 ∷ []) ≡ Ok (annotation.Timestamp (Some true) (Some unit.Microseconds))
+  pub newer_8_no_field_of_unit : annotation_at (140 ∷ 17 ∷ 28 ∷ 0 ∷ 0 ∷ 0 ∷ []) ≡ Ok (annotation.Timestamp (Some true) None)
+  pub newer_8_of_another_kind : annotation_at (133 ∷ 0 ∷ 0 ∷ []) ≡ Ok annotation.Other
   pub newer_11 : annotation_at (188 ∷ 0 ∷ 0 ∷ []) ≡ Ok annotation.Other
   pub newer_12 : annotation_at (204 ∷ 0 ∷ 0 ∷ []) ≡ Ok annotation.Text
   pub newer_13 : annotation_at (220 ∷ 0 ∷ 0 ∷ []) ≡ Ok annotation.Bytes
@@ -182,8 +209,11 @@ pub record TableExamples : Type 0 where
   pub newer_10_64 : annotation_at (172 ∷ 19 ∷ 64 ∷ 17 ∷ 0 ∷ 0 ∷ []) ≡ Ok (annotation.Integer 64 true)
   pub newer_none : annotation_at (0 ∷ []) ≡ Ok annotation.None
   pub decimal_element : element_of (21 ∷ 14 ∷ 37 ∷ 2 ∷ 24 ∷ 1 ∷ 97 ∷ 37 ∷ 10 ∷ 21 ∷ 4 ∷ 21 ∷ 18 ∷ 0 ∷ 9 ∷ []) ≡ Ok (record { physical = Some 7; repetition = Some 1; name = codes "a"; children = None; converted = Some 5; scale = Some 4; precision = Some 9; annotation = None }, 9 ∷ [])
-  pub decimal_leaf : leaf_of 3 (record { physical = Some 7; repetition = Some 1; name = codes "a"; children = None; converted = Some 5; scale = Some 4; precision = Some 9; annotation = None }) ≡ Some (record { place = 3; physical = 7; form = form.Decimal; is_raw = true; nullability = Nullable })
   pub statistics : statistics_of (24 ∷ 1 ∷ 65 ∷ 24 ∷ 1 ∷ 66 ∷ 22 ∷ 6 ∷ 22 ∷ 18 ∷ 24 ∷ 1 ∷ 67 ∷ 24 ∷ 1 ∷ 68 ∷ 17 ∷ 18 ∷ 0 ∷ []) ≡ Ok (record { old_max = Some (65 ∷ []); old_min = Some (66 ∷ []); null_count = Some 3; max = Some (67 ∷ []); min = Some (68 ∷ []); is_max_exact = true; is_min_exact = false })
+  pub order_of_the_type : order_of (28 ∷ 0 ∷ 0 ∷ 9 ∷ []) ≡ Ok (true, 9 ∷ [])
+  pub order_undefined : order_of (0 ∷ 9 ∷ []) ≡ Ok (false, 9 ∷ [])
+  pub order_of_another_name : order_of (44 ∷ 0 ∷ 0 ∷ 9 ∷ []) ≡ Ok (false, 9 ∷ [])
+  pub order_of_another_kind : order_of (21 ∷ 2 ∷ 0 ∷ 9 ∷ []) ≡ Ok (false, 9 ∷ [])
   pub statistics_few : statistics_of (54 ∷ 1 ∷ 81 ∷ 0 ∷ []) ≡ Ok (record { old_max = None; old_min = None; null_count = None; max = None; min = None; is_max_exact = false; is_min_exact = true })
 
 -- which bound is used as what
@@ -261,17 +291,54 @@ pub record BoundExamples : Type 0 where
   pub set : set_of form.Bool true (record { old_max = Some (1 ∷ []); old_min = Some (0 ∷ []); null_count = Some 2; max = Some (0 ∷ []); min = Some (1 ∷ []); is_max_exact = true; is_min_exact = false }) ≡ (Max, Exact (value.Bool false)) ∷ (Min, Inexact (value.Bool true)) ∷ (NullCount, Exact (value.Primitive (number.U64 2))) ∷ []
   pub set_without_order : set_of form.Bool false (record { old_max = Some (1 ∷ []); old_min = Some (0 ∷ []); null_count = Some 2; max = Some (0 ∷ []); min = Some (1 ∷ []); is_max_exact = true; is_min_exact = false }) ≡ (Max, Inexact (value.Bool true)) ∷ (Min, Inexact (value.Bool false)) ∷ (NullCount, Exact (value.Primitive (number.U64 2))) ∷ []
   pub set_of_decimals : set_of form.Decimal true (record { old_max = None; old_min = None; null_count = None; max = Some (0 ∷ 128 ∷ 0 ∷ 0 ∷ 0 ∷ 0 ∷ 0 ∷ 0 ∷ 0 ∷ []); min = Some (255 ∷ 56 ∷ []); is_max_exact = true; is_min_exact = true }) ≡ (Max, Absent) ∷ (Min, Exact (value.Primitive (number.I64 (negsuc 199)))) ∷ (NullCount, Absent) ∷ []
-  pub set_of_another_type : chunk_set (record { place = 0; physical = 0; form = form.Bool; is_raw = false; nullability = NonNullable }) true (record { physical = Some 1; statistics = Some (record { old_max = Some (1 ∷ []); old_min = Some (0 ∷ []); null_count = Some 2; max = Some (0 ∷ []); min = Some (1 ∷ []); is_max_exact = true; is_min_exact = false }) }) ≡ []
-  pub set_of_no_type : chunk_set (record { place = 0; physical = 0; form = form.Bool; is_raw = false; nullability = NonNullable }) true (record { physical = None; statistics = Some (record { old_max = Some (1 ∷ []); old_min = Some (0 ∷ []); null_count = Some 2; max = Some (0 ∷ []); min = Some (1 ∷ []); is_max_exact = true; is_min_exact = false }) }) ≡ []
-  pub set_without_statistics : chunk_set (record { place = 0; physical = 0; form = form.Bool; is_raw = false; nullability = NonNullable }) true (record { physical = Some 0; statistics = None }) ≡ []
+  pub set_of_another_type : chunk_set (record { place = 0; physical = 0; form = form.Bool; meaning = meaning.Plain; nullability = NonNullable }) true (record { physical = Some 1; statistics = Some (record { old_max = Some (1 ∷ []); old_min = Some (0 ∷ []); null_count = Some 2; max = Some (0 ∷ []); min = Some (1 ∷ []); is_max_exact = true; is_min_exact = false }) }) ≡ []
+  pub set_of_no_type : chunk_set (record { place = 0; physical = 0; form = form.Bool; meaning = meaning.Plain; nullability = NonNullable }) true (record { physical = None; statistics = Some (record { old_max = Some (1 ∷ []); old_min = Some (0 ∷ []); null_count = Some 2; max = Some (0 ∷ []); min = Some (1 ∷ []); is_max_exact = true; is_min_exact = false }) }) ≡ []
+  pub set_without_statistics : chunk_set (record { place = 0; physical = 0; form = form.Bool; meaning = meaning.Plain; nullability = Nullable }) true (record { physical = Some 0; statistics = None }) ≡ []
+  pub required_without_statistics : chunk_set (record { place = 0; physical = 0; form = form.Bool; meaning = meaning.Plain; nullability = NonNullable }) true (record { physical = Some 0; statistics = None }) ≡ (Max, Absent) ∷ (Min, Absent) ∷ (NullCount, Exact (value.Primitive (number.U64 0))) ∷ []
+  pub required_without_null_count : chunk_set (record { place = 0; physical = 0; form = form.Bool; meaning = meaning.Plain; nullability = NonNullable }) true (record { physical = Some 0; statistics = Some (record { old_max = None; old_min = None; null_count = None; max = Some (1 ∷ []); min = None; is_max_exact = true; is_min_exact = false }) }) ≡ (Max, Exact (value.Bool true)) ∷ (Min, Absent) ∷ (NullCount, Exact (value.Primitive (number.U64 0))) ∷ []
+  pub required_with_null_count : chunk_set (record { place = 0; physical = 0; form = form.Bool; meaning = meaning.Plain; nullability = NonNullable }) true (record { physical = Some 0; statistics = Some (record { old_max = None; old_min = None; null_count = Some 2; max = Some (1 ∷ []); min = None; is_max_exact = true; is_min_exact = false }) }) ≡ (Max, Exact (value.Bool true)) ∷ (Min, Absent) ∷ (NullCount, Exact (value.Primitive (number.U64 2))) ∷ []
+  pub optional_without_null_count : chunk_set (record { place = 0; physical = 0; form = form.Bool; meaning = meaning.Plain; nullability = Nullable }) true (record { physical = Some 0; statistics = Some (record { old_max = None; old_min = None; null_count = None; max = Some (1 ∷ []); min = None; is_max_exact = true; is_min_exact = false }) }) ≡ (Max, Exact (value.Bool true)) ∷ (Min, Absent) ∷ (NullCount, Absent) ∷ []
+  pub optional_with_null_count : chunk_set (record { place = 0; physical = 0; form = form.Bool; meaning = meaning.Plain; nullability = Nullable }) true (record { physical = Some 0; statistics = Some (record { old_max = None; old_min = None; null_count = Some 2; max = Some (1 ∷ []); min = None; is_max_exact = true; is_min_exact = false }) }) ≡ (Max, Exact (value.Bool true)) ∷ (Min, Absent) ∷ (NullCount, Exact (value.Primitive (number.U64 2))) ∷ []
+
+-- how many bytes a row group takes: the chunks below take 40 and 10, and the last two don't tell it
+abbrev pub chunk_of_40 : List ℕ
+chunk_of_40 = 60 ∷ 118 ∷ 80 ∷ 0 ∷ 0 ∷ []
+
+abbrev pub chunk_of_10 : List ℕ
+chunk_of_10 = 60 ∷ 102 ∷ 80 ∷ 22 ∷ 20 ∷ 0 ∷ 0 ∷ []
+
+abbrev pub chunk_uncompressed : List ℕ
+chunk_uncompressed = 60 ∷ 102 ∷ 80 ∷ 0 ∷ 0 ∷ []
+
+abbrev pub chunk_elsewhere : List ℕ
+chunk_elsewhere = 38 ∷ 8 ∷ 0 ∷ []
+
+pub record SizeExamples : Type 0 where
+  pub chunk : chunk_size chunk_of_40 ≡ Ok (Some 40)
+  pub chunk_compressed : chunk_size chunk_of_10 ≡ Ok (Some 10)
+  pub chunk_uncompressed_alone : chunk_size chunk_uncompressed ≡ Ok None
+  pub chunk_without_metadata : chunk_size chunk_elsewhere ≡ Ok None
+  pub chunk_below_0 : chunk_size (60 ∷ 118 ∷ 81 ∷ 0 ∷ 0 ∷ []) ≡ Ok None
+  pub sum : sum_of (Some 40 ∷ Some 10 ∷ []) ≡ Some 50
+  pub sum_of_none : sum_of [] ≡ Some 0
+  pub first_not_told : sum_of (None ∷ Some 10 ∷ []) ≡ None
+  pub last_not_told : sum_of (Some 40 ∷ None ∷ []) ≡ None
+  pub greatest : sum_of (Some (2 ^ 64 - 2) ∷ Some 1 ∷ []) ≡ Some (2 ^ 64 - 1)
+  pub past_64_bits : sum_of (Some (2 ^ 64 - 1) ∷ Some 1 ∷ []) ≡ None
+  pub told : size_of (Some 7) (chunk_of_40 ∷ chunk_of_10 ∷ []) ≡ Ok (Some 7)
+  pub together : size_of None (chunk_of_40 ∷ chunk_of_10 ∷ []) ≡ Ok (Some 50)
+  pub one_not_told : size_of None (chunk_of_40 ∷ chunk_uncompressed ∷ []) ≡ Ok None
+  pub one_elsewhere : size_of None (chunk_elsewhere ∷ chunk_of_10 ∷ []) ≡ Ok None
+  pub group : group_of [] 2 [] (record { rows = 3; size = None; columns = chunk_of_40 ∷ chunk_of_10 ∷ [] }) ≡ Ok (record { rows = 3; size = Some 50; stats = [] })
+  pub group_told : group_of [] 2 [] (record { rows = 3; size = Some 7; columns = chunk_of_40 ∷ chunk_of_10 ∷ [] }) ≡ Ok (record { rows = 3; size = Some 7; stats = [] })
 
 -- the columns of a schema, and the one of a name
 pub record ColumnExamples : Type 0 where
-  pub columns : columns_of (record { physical = None; repetition = None; name = codes "schema"; children = Some 5; converted = None; scale = None; precision = None; annotation = None } ∷ record { physical = Some 1; repetition = Some 1; name = codes "a"; children = None; converted = None; scale = None; precision = None; annotation = None } ∷ record { physical = None; repetition = Some 1; name = codes "g"; children = Some 2; converted = None; scale = None; precision = None; annotation = None } ∷ record { physical = Some 1; repetition = Some 0; name = codes "x"; children = None; converted = None; scale = None; precision = None; annotation = None } ∷ record { physical = Some 2; repetition = Some 0; name = codes "y"; children = None; converted = None; scale = None; precision = None; annotation = None } ∷ record { physical = Some 1; repetition = Some 2; name = codes "r"; children = None; converted = None; scale = None; precision = None; annotation = None } ∷ record { physical = Some 6; repetition = Some 0; name = codes "s"; children = None; converted = Some 0; scale = None; precision = None; annotation = None } ∷ record { physical = Some 5; repetition = Some 1; name = codes "d"; children = None; converted = None; scale = None; precision = None; annotation = None } ∷ []) ≡ Ok (record { name = codes "a"; content = content.Leaf (record { place = 0; physical = 1; form = form.Four ptype.I32; is_raw = false; nullability = Nullable }) } ∷ record { name = codes "g"; content = content.LeftOut left_out.Nested } ∷ record { name = codes "r"; content = content.LeftOut left_out.Repeated } ∷ record { name = codes "s"; content = content.Leaf (record { place = 4; physical = 6; form = form.Utf8; is_raw = false; nullability = NonNullable }) } ∷ record { name = codes "d"; content = content.LeftOut left_out.Type } ∷ [], 6)
+  pub columns : columns_of (record { physical = None; repetition = None; name = codes "schema"; children = Some 5; converted = None; scale = None; precision = None; annotation = None } ∷ record { physical = Some 1; repetition = Some 1; name = codes "a"; children = None; converted = None; scale = None; precision = None; annotation = None } ∷ record { physical = None; repetition = Some 1; name = codes "g"; children = Some 2; converted = None; scale = None; precision = None; annotation = None } ∷ record { physical = Some 1; repetition = Some 0; name = codes "x"; children = None; converted = None; scale = None; precision = None; annotation = None } ∷ record { physical = Some 2; repetition = Some 0; name = codes "y"; children = None; converted = None; scale = None; precision = None; annotation = None } ∷ record { physical = Some 1; repetition = Some 2; name = codes "r"; children = None; converted = None; scale = None; precision = None; annotation = None } ∷ record { physical = Some 6; repetition = Some 0; name = codes "s"; children = None; converted = Some 0; scale = None; precision = None; annotation = None } ∷ record { physical = Some 5; repetition = Some 1; name = codes "d"; children = None; converted = None; scale = None; precision = None; annotation = None } ∷ []) ≡ Ok (record { name = codes "a"; content = content.Leaf (record { place = 0; physical = 1; form = form.Four ptype.I32; meaning = meaning.Plain; nullability = Nullable }) } ∷ record { name = codes "g"; content = content.LeftOut left_out.Nested } ∷ record { name = codes "r"; content = content.LeftOut left_out.Repeated } ∷ record { name = codes "s"; content = content.Leaf (record { place = 4; physical = 6; form = form.Utf8; meaning = meaning.Plain; nullability = NonNullable }) } ∷ record { name = codes "d"; content = content.LeftOut left_out.Type } ∷ [], 6)
   pub no_root : columns_of [] ≡ Err fault.Schema
   pub group_past_the_end : columns_of (record { physical = None; repetition = None; name = codes "schema"; children = Some 1; converted = None; scale = None; precision = None; annotation = None } ∷ record { physical = None; repetition = Some 1; name = codes "g"; children = Some 2; converted = None; scale = None; precision = None; annotation = None } ∷ record { physical = Some 1; repetition = Some 0; name = codes "x"; children = None; converted = None; scale = None; precision = None; annotation = None } ∷ []) ≡ Err fault.Schema
-  pub nested_group : columns_of (record { physical = None; repetition = None; name = codes "schema"; children = Some 2; converted = None; scale = None; precision = None; annotation = None } ∷ record { physical = None; repetition = Some 1; name = codes "g"; children = Some 1; converted = None; scale = None; precision = None; annotation = None } ∷ record { physical = None; repetition = Some 1; name = codes "h"; children = Some 1; converted = None; scale = None; precision = None; annotation = None } ∷ record { physical = Some 1; repetition = Some 0; name = codes "x"; children = None; converted = None; scale = None; precision = None; annotation = None } ∷ record { physical = Some 1; repetition = Some 0; name = codes "b"; children = None; converted = None; scale = None; precision = None; annotation = None } ∷ []) ≡ Ok (record { name = codes "g"; content = content.LeftOut left_out.Nested } ∷ record { name = codes "b"; content = content.Leaf (record { place = 1; physical = 1; form = form.Four ptype.I32; is_raw = false; nullability = NonNullable }) } ∷ [], 2)
-  pub one_of_a_name : lookup (codes "b") (record { name = codes "a"; content = content.Leaf (record { place = 0; physical = 1; form = form.Four ptype.I32; is_raw = false; nullability = Nullable }) } ∷ record { name = codes "b"; content = content.Leaf (record { place = 1; physical = 6; form = form.Utf8; is_raw = false; nullability = NonNullable }) } ∷ record { name = codes "a"; content = content.Leaf (record { place = 1; physical = 6; form = form.Utf8; is_raw = false; nullability = NonNullable }) } ∷ record { name = codes "g"; content = content.LeftOut left_out.Nested } ∷ []) ≡ Some (content.Leaf (record { place = 1; physical = 6; form = form.Utf8; is_raw = false; nullability = NonNullable }))
-  pub two_of_a_name : lookup (codes "a") (record { name = codes "a"; content = content.Leaf (record { place = 0; physical = 1; form = form.Four ptype.I32; is_raw = false; nullability = Nullable }) } ∷ record { name = codes "b"; content = content.Leaf (record { place = 1; physical = 6; form = form.Utf8; is_raw = false; nullability = NonNullable }) } ∷ record { name = codes "a"; content = content.Leaf (record { place = 1; physical = 6; form = form.Utf8; is_raw = false; nullability = NonNullable }) } ∷ record { name = codes "g"; content = content.LeftOut left_out.Nested } ∷ []) ≡ Some (content.LeftOut left_out.Duplicate)
-  pub one_left_out : lookup (codes "g") (record { name = codes "a"; content = content.Leaf (record { place = 0; physical = 1; form = form.Four ptype.I32; is_raw = false; nullability = Nullable }) } ∷ record { name = codes "b"; content = content.Leaf (record { place = 1; physical = 6; form = form.Utf8; is_raw = false; nullability = NonNullable }) } ∷ record { name = codes "a"; content = content.Leaf (record { place = 1; physical = 6; form = form.Utf8; is_raw = false; nullability = NonNullable }) } ∷ record { name = codes "g"; content = content.LeftOut left_out.Nested } ∷ []) ≡ Some (content.LeftOut left_out.Nested)
-  pub none_of_a_name : lookup (codes "ab") (record { name = codes "a"; content = content.Leaf (record { place = 0; physical = 1; form = form.Four ptype.I32; is_raw = false; nullability = Nullable }) } ∷ record { name = codes "b"; content = content.Leaf (record { place = 1; physical = 6; form = form.Utf8; is_raw = false; nullability = NonNullable }) } ∷ record { name = codes "a"; content = content.Leaf (record { place = 1; physical = 6; form = form.Utf8; is_raw = false; nullability = NonNullable }) } ∷ record { name = codes "g"; content = content.LeftOut left_out.Nested } ∷ []) ≡ None
+  pub nested_group : columns_of (record { physical = None; repetition = None; name = codes "schema"; children = Some 2; converted = None; scale = None; precision = None; annotation = None } ∷ record { physical = None; repetition = Some 1; name = codes "g"; children = Some 1; converted = None; scale = None; precision = None; annotation = None } ∷ record { physical = None; repetition = Some 1; name = codes "h"; children = Some 1; converted = None; scale = None; precision = None; annotation = None } ∷ record { physical = Some 1; repetition = Some 0; name = codes "x"; children = None; converted = None; scale = None; precision = None; annotation = None } ∷ record { physical = Some 1; repetition = Some 0; name = codes "b"; children = None; converted = None; scale = None; precision = None; annotation = None } ∷ []) ≡ Ok (record { name = codes "g"; content = content.LeftOut left_out.Nested } ∷ record { name = codes "b"; content = content.Leaf (record { place = 1; physical = 1; form = form.Four ptype.I32; meaning = meaning.Plain; nullability = NonNullable }) } ∷ [], 2)
+  pub one_of_a_name : lookup (codes "b") (record { name = codes "a"; content = content.Leaf (record { place = 0; physical = 1; form = form.Four ptype.I32; meaning = meaning.Plain; nullability = Nullable }) } ∷ record { name = codes "b"; content = content.Leaf (record { place = 1; physical = 6; form = form.Utf8; meaning = meaning.Plain; nullability = NonNullable }) } ∷ record { name = codes "a"; content = content.Leaf (record { place = 1; physical = 6; form = form.Utf8; meaning = meaning.Plain; nullability = NonNullable }) } ∷ record { name = codes "g"; content = content.LeftOut left_out.Nested } ∷ []) ≡ Some (content.Leaf (record { place = 1; physical = 6; form = form.Utf8; meaning = meaning.Plain; nullability = NonNullable }))
+  pub two_of_a_name : lookup (codes "a") (record { name = codes "a"; content = content.Leaf (record { place = 0; physical = 1; form = form.Four ptype.I32; meaning = meaning.Plain; nullability = Nullable }) } ∷ record { name = codes "b"; content = content.Leaf (record { place = 1; physical = 6; form = form.Utf8; meaning = meaning.Plain; nullability = NonNullable }) } ∷ record { name = codes "a"; content = content.Leaf (record { place = 1; physical = 6; form = form.Utf8; meaning = meaning.Plain; nullability = NonNullable }) } ∷ record { name = codes "g"; content = content.LeftOut left_out.Nested } ∷ []) ≡ Some (content.LeftOut left_out.Duplicate)
+  pub one_left_out : lookup (codes "g") (record { name = codes "a"; content = content.Leaf (record { place = 0; physical = 1; form = form.Four ptype.I32; meaning = meaning.Plain; nullability = Nullable }) } ∷ record { name = codes "b"; content = content.Leaf (record { place = 1; physical = 6; form = form.Utf8; meaning = meaning.Plain; nullability = NonNullable }) } ∷ record { name = codes "a"; content = content.Leaf (record { place = 1; physical = 6; form = form.Utf8; meaning = meaning.Plain; nullability = NonNullable }) } ∷ record { name = codes "g"; content = content.LeftOut left_out.Nested } ∷ []) ≡ Some (content.LeftOut left_out.Nested)
+  pub none_of_a_name : lookup (codes "ab") (record { name = codes "a"; content = content.Leaf (record { place = 0; physical = 1; form = form.Four ptype.I32; meaning = meaning.Plain; nullability = Nullable }) } ∷ record { name = codes "b"; content = content.Leaf (record { place = 1; physical = 6; form = form.Utf8; meaning = meaning.Plain; nullability = NonNullable }) } ∷ record { name = codes "a"; content = content.Leaf (record { place = 1; physical = 6; form = form.Utf8; meaning = meaning.Plain; nullability = NonNullable }) } ∷ record { name = codes "g"; content = content.LeftOut left_out.Nested } ∷ []) ≡ None

@@ -5,10 +5,13 @@ ghost use Rattle.vortex_parquet.specs.Records.{element_view};
 ghost use Rattle.vortex_parquet.specs.Reading.{Gives};
 
 use crate::fault::{Fault, ReadError};
-use crate::records::{Annotation, SchemaElement, is_number, is_short};
+use crate::fields::natural_of;
+use crate::meaning::{LeafMeaning, meaning_of};
+use crate::records::{Annotation, SchemaElement, is_number};
 use std::alloc::{AllocError, Global};
 use vortex_base::dtype::DType;
 use vortex_base::types::{Nullability, PType};
+use vortex_logical::time_unit::TimeUnit;
 
 /// How the bytes of a column's bounds are read.
 #[derive(Clone, Copy, Debug, PartialEq, Eq)]
@@ -24,15 +27,14 @@ pub enum Form {
     Decimal,
 }
 
-/// A leaf column that is read: its place among all leaf columns, its physical type, and what it
-/// holds.
+/// A leaf column that is read: its place among all leaf columns, its physical type, what it holds,
+/// and what that stands for.
 #[derive(Clone, Copy, Debug, PartialEq, Eq)]
 pub struct Leaf {
     pub place: usize,
     pub physical: u64,
     pub form: Form,
-    /// Whether its numbers stand for something else: days, times, or decimals with a fraction.
-    pub is_raw: bool,
+    pub meaning: LeafMeaning,
     pub nullability: Nullability,
 }
 
@@ -94,13 +96,14 @@ impl Form {
     }
 }
 
-// Whether decimals that are annotated in the older way are whole numbers: without a scale they are.
-fn is_whole(scale: Option<u64>) -> bool
-    ensures { result ≡ spec.is_whole scale }
+// How many digits stand behind the point of decimals that are annotated in the older way: none
+// where it isn't told.
+fn older_scale(scale: Option<u64>) -> Option<u64>
+    ensures { result ≡ spec.older_scale scale }
 {
     match scale {
-        Some(scale) => scale == 0,
-        None => true,
+        Some(_) => natural_of(scale),
+        None => Some(0),
     }
 }
 
@@ -111,8 +114,12 @@ fn converted(code: u64, scale: Option<u64>, precision: Option<u64>) -> Annotatio
 {
     match code {
         0 | 4 | 19 => Annotation::Text,
-        5 => Annotation::Decimal(is_whole(scale), is_short(precision)),
-        6 | 7 | 8 | 9 | 10 => Annotation::Time,
+        5 => Annotation::Decimal(older_scale(scale), precision),
+        6 => Annotation::Date,
+        7 => Annotation::Time(Some(TimeUnit::Milliseconds)),
+        8 => Annotation::Time(Some(TimeUnit::Microseconds)),
+        9 => Annotation::Timestamp(Some(true), Some(TimeUnit::Milliseconds)),
+        10 => Annotation::Timestamp(Some(true), Some(TimeUnit::Microseconds)),
         11 => Annotation::Integer(8, false),
         12 => Annotation::Integer(16, false),
         13 => Annotation::Integer(32, false),
@@ -172,9 +179,11 @@ fn four(annotation: Annotation) -> Option<Form>
     ensures { result ≡ spec.four annotation }
 {
     match annotation {
-        Annotation::None | Annotation::Decimal(_, _) | Annotation::Time => Some(Form::Four(
-            PType::I32,
-        )),
+        Annotation::None
+        | Annotation::Decimal(_, _)
+        | Annotation::Date
+        | Annotation::Time(_)
+        | Annotation::Timestamp(_, _) => Some(Form::Four(PType::I32)),
         Annotation::Integer(bits, signed) => four_integer(bits, signed),
         _ => None,
     }
@@ -197,19 +206,31 @@ fn eight(annotation: Annotation) -> Option<Form>
     ensures { result ≡ spec.eight annotation }
 {
     match annotation {
-        Annotation::None | Annotation::Decimal(_, _) | Annotation::Time => Some(Form::Eight(
-            PType::I64,
-        )),
+        Annotation::None
+        | Annotation::Decimal(_, _)
+        | Annotation::Date
+        | Annotation::Time(_)
+        | Annotation::Timestamp(_, _) => Some(Form::Eight(PType::I64)),
         Annotation::Integer(bits, signed) => eight_integer(bits, signed),
         _ => None,
     }
 }
 
-// Decimals in bytes, if each fits 64 bits.
-fn decimal_form(is_short: bool) -> Option<Form>
-    ensures { result ≡ spec.decimal_form is_short }
+// Whether decimals of so many digits at most fit 64 bits.
+fn is_short(precision: Option<u64>) -> bool
+    ensures { result ≡ spec.is_short precision }
 {
-    if is_short {
+    match precision {
+        Some(precision) => precision <= 18,
+        None => false,
+    }
+}
+
+// Decimals in bytes, if each fits 64 bits.
+fn decimal_form(precision: Option<u64>) -> Option<Form>
+    ensures { result ≡ spec.decimal_form precision }
+{
+    if is_short(precision) {
         return Some(Form::Decimal);
     }
     None
@@ -223,7 +244,7 @@ fn bytes_form(annotation: Annotation) -> Option<Form>
     match annotation {
         Annotation::None | Annotation::Bytes => Some(Form::Binary),
         Annotation::Text => Some(Form::Utf8),
-        Annotation::Decimal(_, is_short) => decimal_form(is_short),
+        Annotation::Decimal(_, precision) => decimal_form(precision),
         _ => None,
     }
 }
@@ -235,7 +256,7 @@ fn fixed_form(annotation: Annotation) -> Option<Form>
 {
     match annotation {
         Annotation::None | Annotation::Bytes => Some(Form::Binary),
-        Annotation::Decimal(_, is_short) => decimal_form(is_short),
+        Annotation::Decimal(_, precision) => decimal_form(precision),
         _ => None,
     }
 }
@@ -277,17 +298,6 @@ fn nullability(repetition: u64) -> Option<Nullability>
     }
 }
 
-// Whether numbers that are annotated so stand for something else.
-fn is_raw(annotation: Annotation) -> bool
-    ensures { result ≡ spec.is_raw annotation }
-{
-    match annotation {
-        Annotation::Time => true,
-        Annotation::Decimal(is_whole, _) => !is_whole,
-        _ => false,
-    }
-}
-
 // The leaf column of an element at a place, if its statistics are read.
 #[tactic(auto, unfolding(crate::specs::Columns::leaf_of))]
 fn leaf_of(place: usize, element: &SchemaElement<'_>) -> Option<Leaf>
@@ -307,7 +317,7 @@ fn leaf_of(place: usize, element: &SchemaElement<'_>) -> Option<Leaf>
         place,
         physical,
         form,
-        is_raw: is_raw(annotation),
+        meaning: meaning_of(physical, annotation),
         nullability,
     })
 }

@@ -2,7 +2,8 @@
 ghost use Rattle.std.specs.Prelude.{◌≡◌, map, option_copied};
 ghost use Rattle.vortex_parquet.specs.Fields.{binary_in, byte_in, field_view, field_views, found};
 ghost use Rattle.vortex_parquet.specs.Fields.{is_told, items_in, items_of, items_view, natural_in};
-ghost use Rattle.vortex_parquet.specs.Fields.{number_in, pick, spans_in, struct_of};
+ghost use Rattle.vortex_parquet.specs.Fields.{natural_of, number_in, pick, spans_in, struct_of};
+ghost use Rattle.vortex_parquet.specs.Fields.{truth_in};
 ghost use Rattle.vortex_parquet.specs.Reading.{Gives};
 
 use crate::compact::{self, Kind};
@@ -120,15 +121,23 @@ pub fn number_in(fields: &[Field<'_>], id: u16, kind: Kind) -> Result<Option<u64
     }
 }
 
+/// Returns a number whose sign is its lowest bit, if it is there and not below 0.
+pub(crate) fn natural_of(number: Option<u64>) -> Option<u64>
+    ensures { result ≡ natural_of number }
+{
+    match number {
+        Some(number) if number % 2 == 0 => Some(number / 2),
+        _ => None,
+    }
+}
+
 /// The number in a field of a kind, if it is there and not below 0.
 #[tactic(auto, unfolding(crate::specs::Fields::natural_in))]
 pub fn natural_in(fields: &[Field<'_>], id: u16, kind: Kind) -> Result<Option<u64>, ReadError>
     ensures { Gives (λ o. o) result (natural_in (field_views fields.now) id kind) }
 {
-    match number_in(fields, id, kind)? {
-        Some(number) if number % 2 == 0 => Ok(Some(number / 2)),
-        _ => Ok(None),
-    }
+    let number = number_in(fields, id, kind)?;
+    Ok(natural_of(number))
 }
 
 /// The byte in a field, if it is there.
@@ -148,6 +157,20 @@ pub fn is_told(fields: &[Field<'_>], id: u16) -> bool
     ensures { result ≡ is_told (field_views fields.now) id }
 {
     found(fields, id, Kind::True).is_some() && found(fields, id, Kind::False).is_none()
+}
+
+/// Returns what a field is told to be, true or false; none if it isn't told, or told to be both.
+#[tactic(auto, unfolding(crate::specs::Fields::truth_in))]
+pub fn truth_in(fields: &[Field<'_>], id: u16) -> Option<bool>
+    ensures { result ≡ truth_in (field_views fields.now) id }
+{
+    let is_true = found(fields, id, Kind::True).is_some();
+    let is_false = found(fields, id, Kind::False).is_some();
+    match (is_true, is_false) {
+        (true, false) => Some(true),
+        (false, true) => Some(false),
+        _ => None,
+    }
 }
 
 /// Returns the list in a field of items of a kind; none if it isn't there.

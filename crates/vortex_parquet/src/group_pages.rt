@@ -11,7 +11,9 @@ use crate::fault::ReadError;
 use crate::offset_index::{offset_index_of, places_of};
 use crate::pages::{Page, one_page, pages_of};
 use crate::records::{Statistics, chunk_of, is_number};
+use crate::stats::statistics_by;
 use std::alloc::Global;
+use vortex_base::types::Nullability;
 
 /// The last bytes of a file: those from a place on.
 #[derive(Clone, Copy, Debug)]
@@ -58,19 +60,20 @@ pub(crate) fn bytes_at<'a>(
 fn indexed<'a>(
     alloc: Global,
     rows: u64,
+    nullability: Nullability,
     statistics: Option<Statistics<'a>>,
     index: Option<&'a [u8]>,
     offsets: Option<&'a [u8]>,
 ) -> Result<Vec<Page<'a>>, ReadError>
     ensures { Gives (λ v. map page_view v.items) result
-        (spec.indexed rows (statistics_views statistics.entry) (option_copied index.entry)
-        (option_copied offsets.entry)) }
+        (spec.indexed rows nullability (statistics_views statistics.entry)
+        (option_copied index.entry) (option_copied offsets.entry)) }
 {
     match (index, offsets) {
         (Some(index), Some(offsets)) => {
             let index = column_index_of(alloc, index)?;
             let locations = offset_index_of(alloc, offsets)?;
-            pages_of(alloc, rows, &index, &locations)
+            pages_of(alloc, rows, nullability, &index, &locations)
         }
         _ => Ok(one_page(alloc, rows, statistics)?),
     }
@@ -98,5 +101,6 @@ pub fn leaf_pages<'a>(
     }
     let index = bytes_at(tail, places.column_index, places.column_index_length);
     let offsets = bytes_at(tail, places.offset_index, places.offset_index_length);
-    indexed(alloc, rows, chunk.statistics, index, offsets)
+    let statistics = statistics_by(leaf.nullability, chunk.statistics);
+    indexed(alloc, rows, leaf.nullability, statistics, index, offsets)
 }

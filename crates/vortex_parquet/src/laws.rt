@@ -5,6 +5,8 @@ ghost use Rattle.vortex_parquet.specs.DataPageWorked.{DataPageExamples};
 ghost use Rattle.vortex_parquet.specs.Fields.{field_views, fields_before, struct_of};
 ghost use Rattle.vortex_parquet.specs.Grammar.{IsStruct, IsValue};
 ghost use Rattle.vortex_parquet.specs.IndexWorked.{IndexExamples};
+ghost use Rattle.vortex_parquet.specs.LogicalLeaves.{LogicalLeaves};
+ghost use Rattle.vortex_parquet.specs.MeaningWorked.{MeaningExamples};
 ghost use Rattle.vortex_parquet.specs.PageWitness.{TruePages};
 ghost use Rattle.vortex_parquet.specs.PageWorked.{PageExamples, StretchExamples};
 ghost use Rattle.vortex_parquet.specs.Reading.{Gives};
@@ -13,7 +15,7 @@ ghost use Rattle.vortex_parquet.specs.Stretches.{PagesFollow, TrueStretches};
 ghost use Rattle.vortex_parquet.specs.Truth.{KnownGroups, TrueGroups};
 ghost use Rattle.vortex_parquet.specs.Witness.{TrueFile};
 ghost use Rattle.vortex_parquet.specs.Worked.{BoundExamples, ColumnExamples, GrammarExamples};
-ghost use Rattle.vortex_parquet.specs.Worked.{TableExamples};
+ghost use Rattle.vortex_parquet.specs.Worked.{SizeExamples, TableExamples};
 
 use crate::compact::Kind;
 use crate::fault::ReadError;
@@ -46,6 +48,12 @@ pub fn fields_of(alloc: Global, bytes: &[u8]) -> Result<(Vec<Field<'_>>, &[u8]),
     fields::struct_of(alloc, bytes)
 }
 
+/// A leaf column of a logical type holds whole numbers with a sign, each of which a column of that
+/// type may hold.
+pub fn leaves_hold_cells()
+    ensures { LogicalLeaves }
+{}
+
 /// Where the statistics of a row group are true of its rows, so are the sets that are made of them;
 /// and what is known of the row groups of a file is what is known of each.
 pub fn groups_are_true()
@@ -64,12 +72,14 @@ pub fn stretches_are_true()
     ensures { TrueStretches }
 {}
 
-/// Worked rows of the grammar, of the table of types, of the choice of bounds and of the columns of
-/// a schema.
+/// Worked rows of the grammar, of the table of types, of what leaf columns stand for, of the choice
+/// of bounds, of the sizes of row groups and of the columns of a schema.
 pub fn examples_hold()
     ensures grammar { GrammarExamples }
     ensures table { TableExamples }
+    ensures meanings { MeaningExamples }
     ensures bounds { BoundExamples }
+    ensures sizes { SizeExamples }
     ensures columns { ColumnExamples }
 {}
 

@@ -11,6 +11,7 @@ pub mod fields;
 pub mod footer;
 pub mod group_pages;
 pub mod laws;
+pub mod meaning;
 pub mod offset_index;
 pub mod page_indexes;
 pub mod pages;

@@ -9,8 +9,9 @@ use crate::column_index::ColumnIndex;
 use crate::fault::{Fault, ReadError};
 use crate::offset_index::PageLocation;
 use crate::records::Statistics;
-use crate::stats::is_true_at;
+use crate::stats::{is_true_at, nulls_of};
 use std::alloc::{AllocError, Global};
+use vortex_base::types::Nullability;
 
 /// A page of a column chunk: its first row, counted from the first of the row group, the row behind
 /// its last one, and its statistics.
@@ -76,14 +77,20 @@ fn nulls_at(counts: &[Option<u64>], place: usize, rows: u64) -> Option<u64>
 }
 
 // The statistics of the page at a place, which has so many rows. A null page has no bounds,
-// whatever bytes stand in their places.
-fn statistics_at<'a>(index: &ColumnIndex<'a>, place: usize, rows: u64) -> Statistics<'a>
-    ensures { statistics_view result ≡ spec.statistics_at (index_view index.now) place rows }
+// whatever bytes stand in their places. A page of a column without nulls has none.
+fn statistics_at<'a>(
+    nullability: Nullability,
+    index: &ColumnIndex<'a>,
+    place: usize,
+    rows: u64,
+) -> Statistics<'a>
+    ensures { statistics_view result
+        ≡ spec.statistics_at nullability (index_view index.now) place rows }
 {
     if is_true_at(&index.null_pages, place) {
         return all_null(rows);
     }
-    let null_count = nulls_at(&index.null_counts, place, rows);
+    let null_count = nulls_of(nullability, nulls_at(&index.null_counts, place, rows));
     let min = string_at(&index.mins, place);
     let max = string_at(&index.maxes, place);
     bounded(min, max, null_count)
@@ -104,20 +111,21 @@ pub(crate) fn first_at(rows: u64, locations: &[PageLocation], place: usize) -> u
 #[tactic(auto, unfolding(crate::specs::Pages::page_at))]
 fn page_at<'a>(
     rows: u64,
+    nullability: Nullability,
     index: &ColumnIndex<'a>,
     locations: &[PageLocation],
     place: usize,
 ) -> Result<Page<'a>, ReadError>
     requires { place < length locations.now }
     ensures { Gives spec.page_view result
-        (spec.page_at rows (index_view index.now) locations.now place) }
+        (spec.page_at rows nullability (index_view index.now) locations.now place) }
 {
     let first = first_at(rows, locations, place);
     let end = first_at(rows, locations, place + 1);
     if end <= first {
         return Err(ReadError::Fault(Fault::Pages));
     }
-    let statistics = statistics_at(index, place, end - first);
+    let statistics = statistics_at(nullability, index, place, end - first);
     Ok(Page {
         first,
         end,
@@ -128,15 +136,16 @@ fn page_at<'a>(
 fn pages_in<'a>(
     alloc: Global,
     rows: u64,
+    nullability: Nullability,
     index: &ColumnIndex<'a>,
     locations: &[PageLocation],
 ) -> Result<Vec<Page<'a>>, ReadError>
     ensures { Gives (λ v. map spec.page_view v.items) result
-        (spec.pages_in rows (index_view index.now) locations.now) }
+        (spec.pages_in rows nullability (index_view index.now) locations.now) }
 {
     let mut pages = Vec::new(alloc);
     for place in 0..locations.len() {
-        let page = page_at(rows, index, locations, place)?;
+        let page = page_at(rows, nullability, index, locations, place)?;
         pages.push(page)?;
     }
     Ok(pages)
@@ -153,6 +162,8 @@ fn has_length(index: &ColumnIndex<'_>, count: usize) -> bool
 }
 
 /// Returns the pages of a column chunk of so many rows, by its column index and its offset index.
+/// Gives each page of a column that the schema has without nulls a null count of 0, whether or not
+/// the index tells it.
 ///
 /// `Pages` if the lists of these are of unequal lengths, or if the first rows don't ascend from 0
 /// to below the number of rows.
@@ -160,11 +171,12 @@ fn has_length(index: &ColumnIndex<'_>, count: usize) -> bool
 pub fn pages_of<'a>(
     alloc: Global,
     rows: u64,
+    nullability: Nullability,
     index: &ColumnIndex<'a>,
     locations: &[PageLocation],
 ) -> Result<Vec<Page<'a>>, ReadError>
     ensures { Gives (λ v. map spec.page_view v.items) result
-        (spec.pages_of rows (index_view index.now) locations.now) }
+        (spec.pages_of rows nullability (index_view index.now) locations.now) }
 {
     if !has_length(index, locations.len()) {
         return Err(ReadError::Fault(Fault::Pages));
@@ -172,7 +184,7 @@ pub fn pages_of<'a>(
     if first_at(rows, locations, 0) != 0 {
         return Err(ReadError::Fault(Fault::Pages));
     }
-    pages_in(alloc, rows, index, locations)
+    pages_in(alloc, rows, nullability, index, locations)
 }
 
 fn or_nothing(statistics: Option<Statistics<'_>>) -> Statistics<'_>

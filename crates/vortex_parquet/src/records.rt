@@ -8,9 +8,10 @@ use crate::compact::Kind;
 use crate::fault::{Fault, ReadError};
 use crate::fields::{
     Field, Items, binary_in, byte_in, found, is_told, items_in, natural_in, number_in, spans,
-    struct_of,
+    struct_of, truth_in,
 };
 use std::alloc::Global;
+use vortex_logical::time_unit::TimeUnit;
 
 /// The statistics of a column in a row group, as they are written.
 #[derive(Clone, Copy, Debug)]
@@ -33,7 +34,7 @@ pub struct ColumnChunk<'a> {
     pub statistics: Option<Statistics<'a>>,
 }
 
-/// A row group: its number of rows, how many bytes it takes in the file, if that is known, and the
+/// A row group: its number of rows, how many bytes it takes in the file, if it tells that, and the
 /// bytes of the footer from each of its column chunks on.
 #[derive(Debug, Drop)]
 pub struct RowGroup<'a> {
@@ -49,11 +50,15 @@ pub enum Annotation {
     None,
     /// String, enumeration or JSON text.
     Text,
-    /// Decimals: whether their scale is 0, so that they are whole numbers, and whether they have at
-    /// most 18 digits, so that each fits 64 bits.
-    Decimal(bool, bool),
-    /// A date, a time or a timestamp.
-    Time,
+    /// Decimals: how many of their digits stand behind the point, and how many digits they have at
+    /// most, where these are told and not below 0.
+    Decimal(Option<u64>, Option<u64>),
+    /// Days.
+    Date,
+    /// Times of day: their unit, if it is told and known.
+    Time(Option<TimeUnit>),
+    /// Timestamps: whether they are adjusted to UTC, if it is told, and their unit.
+    Timestamp(Option<bool>, Option<TimeUnit>),
     /// A whole number of so many bits, with a sign or without.
     Integer(u8, bool),
     /// Bytes that compare byte by byte: BSON and UUID.
@@ -153,6 +158,28 @@ pub fn chunk_of(alloc: Global, bytes: &[u8]) -> Result<ColumnChunk<'_>, ReadErro
     }
 }
 
+// The number of bytes that a column chunk takes in the file, if its metadata tells it.
+#[tactic(auto, unfolding(crate::specs::Records::meta_size))]
+fn meta_size(alloc: Global, bytes: &[u8]) -> Result<Option<u64>, ReadError>
+    ensures { Gives (λ n. n) result (spec.meta_size bytes.now) }
+{
+    let (fields, _) = struct_of(alloc, bytes)?;
+    natural_in(&fields, 7, Kind::I64)
+}
+
+/// Reads how many bytes the column chunk takes in the file with which the bytes begin, if it is
+/// told.
+#[tactic(auto, unfolding(crate::specs::Records::chunk_size))]
+pub(crate) fn chunk_size(alloc: Global, bytes: &[u8]) -> Result<Option<u64>, ReadError>
+    ensures { Gives (λ n. n) result (spec.chunk_size bytes.now) }
+{
+    let (fields, _) = struct_of(alloc, bytes)?;
+    match found(&fields, 3, Kind::Struct) {
+        None => Ok(None),
+        Some(from) => meta_size(alloc, from),
+    }
+}
+
 /// Tells whether a number is known to be this one.
 pub fn is_number(number: u64, known: Option<u64>) -> bool
     ensures { result ≡ spec.is_number number known }
@@ -214,25 +241,68 @@ fn integer_of(alloc: Global, bytes: &[u8]) -> Result<Annotation, ReadError>
     }
 }
 
-/// Tells whether decimals of so many digits at most fit 64 bits.
-pub(crate) fn is_short(precision: Option<u64>) -> bool
-    ensures { result ≡ spec.is_short precision }
-{
-    match precision {
-        Some(precision) => precision <= 18,
-        None => false,
-    }
-}
-
 // The annotation of decimals, which always tells their scale and their precision.
 #[tactic(auto, unfolding(crate::specs::Records::decimal_of))]
 fn decimal_of(alloc: Global, bytes: &[u8]) -> Result<Annotation, ReadError>
     ensures { Gives (λ l. l) result (spec.decimal_of bytes.now) }
 {
     let (fields, _) = struct_of(alloc, bytes)?;
-    let scale = number_in(&fields, 1, Kind::I32)?;
+    let scale = natural_in(&fields, 1, Kind::I32)?;
     let precision = natural_in(&fields, 2, Kind::I32)?;
-    Ok(Annotation::Decimal(is_number(0, scale), is_short(precision)))
+    Ok(Annotation::Decimal(scale, precision))
+}
+
+// The unit that a union tells by its first field.
+fn unit_from(fields: &[Field<'_>]) -> Option<TimeUnit>
+    ensures { result ≡ spec.unit_from (field_views fields.now) }
+{
+    match fields {
+        [] => None,
+        [field, ..] => match field.id {
+            1 => Some(TimeUnit::Milliseconds),
+            2 => Some(TimeUnit::Microseconds),
+            3 => Some(TimeUnit::Nanoseconds),
+            _ => None,
+        },
+    }
+}
+
+#[tactic(auto, unfolding(crate::specs::Records::unit_at))]
+fn unit_at(alloc: Global, bytes: &[u8]) -> Result<Option<TimeUnit>, ReadError>
+    ensures { Gives (λ u. u) result (spec.unit_at bytes.now) }
+{
+    let (fields, _) = struct_of(alloc, bytes)?;
+    Ok(unit_from(&fields))
+}
+
+#[tactic(auto, unfolding(crate::specs::Records::unit_in))]
+fn unit_in(alloc: Global, fields: &[Field<'_>], id: u16) -> Result<Option<TimeUnit>, ReadError>
+    ensures { Gives (λ u. u) result (spec.unit_in (field_views fields.now) id) }
+{
+    match found(fields, id, Kind::Struct) {
+        None => Ok(None),
+        Some(from) => unit_at(alloc, from),
+    }
+}
+
+// The annotation of times of day.
+#[tactic(auto, unfolding(crate::specs::Records::time_of))]
+fn time_of(alloc: Global, bytes: &[u8]) -> Result<Annotation, ReadError>
+    ensures { Gives (λ l. l) result (spec.time_of bytes.now) }
+{
+    let (fields, _) = struct_of(alloc, bytes)?;
+    let unit = unit_in(alloc, &fields, 2)?;
+    Ok(Annotation::Time(unit))
+}
+
+// The annotation of timestamps.
+#[tactic(auto, unfolding(crate::specs::Records::timestamp_of))]
+fn timestamp_of(alloc: Global, bytes: &[u8]) -> Result<Annotation, ReadError>
+    ensures { Gives (λ l. l) result (spec.timestamp_of bytes.now) }
+{
+    let (fields, _) = struct_of(alloc, bytes)?;
+    let unit = unit_in(alloc, &fields, 2)?;
+    Ok(Annotation::Timestamp(truth_in(&fields, 1), unit))
 }
 
 // The annotation that a union tells by its first field.
@@ -245,7 +315,9 @@ fn annotation_from(alloc: Global, fields: &[Field<'_>]) -> Result<Annotation, Re
         [field, ..] => match field.id {
             1 | 4 | 12 => Ok(Annotation::Text),
             5 if field.kind == Kind::Struct => decimal_of(alloc, field.from),
-            6 | 7 | 8 => Ok(Annotation::Time),
+            6 if field.kind == Kind::Struct => Ok(Annotation::Date),
+            7 if field.kind == Kind::Struct => time_of(alloc, field.from),
+            8 if field.kind == Kind::Struct => timestamp_of(alloc, field.from),
             10 if field.kind == Kind::Struct => integer_of(alloc, field.from),
             13 | 14 => Ok(Annotation::Bytes),
             _ => Ok(Annotation::Other),

@@ -3,7 +3,7 @@ ghost use Rattle.std.specs.Prelude.{◌≡◌, ◌^◌, ◌-◌, IfOk, map, negs
 ghost use Rattle.vortex_base.specs.declared.pvalue.PValue.TheVariants as number;
 ghost use Rattle.vortex_parquet.specs.Fields.{many};
 ghost use Rattle.vortex_parquet.specs.Reading.{Gives};
-ghost use Rattle.vortex_parquet.specs.Records.{chunk_view, file_view, row_group_view};
+ghost use Rattle.vortex_parquet.specs.Records.{chunk_size, chunk_view, file_view, row_group_view};
 ghost use Rattle.vortex_parquet.specs.Records.{statistics_view, statistics_views};
 ghost use Rattle.vortex_parquet.specs.Stats as spec;
 
@@ -11,14 +11,14 @@ use crate::columns::{Form, Leaf};
 use crate::decimals::number_of;
 use crate::fault::{Fault, ReadError};
 use crate::records::{
-    ColumnChunk, FileMetaData, RowGroup, Statistics, chunk_of, is_number, row_group_of,
+    self, ColumnChunk, FileMetaData, RowGroup, Statistics, chunk_of, is_number, row_group_of,
 };
 use std::alloc::{AllocError, Global};
 use vortex_base::bytes::Bytes;
 use vortex_base::pvalue::PValue;
 use vortex_base::scalar_value::ScalarValue;
 use vortex_base::text::Text;
-use vortex_base::types::PType;
+use vortex_base::types::{Nullability, PType};
 use vortex_stats::precision::Precision;
 use vortex_stats::stat::Stat;
 use vortex_stats::stats_set::StatsSet;
@@ -286,6 +286,55 @@ pub fn set_of(
     Ok(set)
 }
 
+/// Returns the number of nulls: as it is told, and 0 where it isn't told of a column that the schema
+/// has without nulls.
+pub(crate) fn nulls_of(nullability: Nullability, count: Option<u64>) -> Option<u64>
+    ensures { result ≡ spec.nulls_of nullability count }
+{
+    match (count, nullability) {
+        (None, Nullability::NonNullable) => Some(0),
+        _ => count,
+    }
+}
+
+fn without_nulls<'a>() -> Statistics<'a>
+    ensures { statistics_view result ≡ spec.without_nulls }
+{
+    Statistics {
+        old_max: None,
+        old_min: None,
+        null_count: Some(0),
+        max: None,
+        min: None,
+        is_max_exact: false,
+        is_min_exact: false,
+    }
+}
+
+/// Returns the statistics of a column chunk, as they are told and by the schema: a column that is
+/// `REQUIRED` has no nulls, whether or not its statistics tell it.
+pub(crate) fn statistics_by<'a>(
+    nullability: Nullability,
+    statistics: Option<Statistics<'a>>,
+) -> Option<Statistics<'a>>
+    ensures { statistics_views result
+        ≡ spec.statistics_by nullability (statistics_views statistics.entry) }
+{
+    match (statistics, nullability) {
+        (Some(s), _) => Some(Statistics {
+            old_max: s.old_max,
+            old_min: s.old_min,
+            null_count: nulls_of(nullability, s.null_count),
+            max: s.max,
+            min: s.min,
+            is_max_exact: s.is_max_exact,
+            is_min_exact: s.is_min_exact,
+        }),
+        (None, Nullability::NonNullable) => Some(without_nulls()),
+        (None, Nullability::Nullable) => None,
+    }
+}
+
 fn set_or_none(
     alloc: Global,
     form: Form,
@@ -313,7 +362,8 @@ fn chunk_set(
     ensures { IfOk result (λ s. s ≡ spec.chunk_set leaf is_ordered (chunk_view chunk.now)) }
 {
     if is_number(leaf.physical, chunk.physical) {
-        return set_or_none(alloc, leaf.form, is_ordered, &chunk.statistics);
+        let statistics = statistics_by(leaf.nullability, chunk.statistics);
+        return set_or_none(alloc, leaf.form, is_ordered, &statistics);
     }
     Ok(StatsSet::new(alloc))
 }
@@ -379,12 +429,52 @@ fn leaf_sets(
 }
 
 /// The statistics of a row group: how many rows it has, how many bytes it takes in the file, if the
-/// footer tells, and the statistics of each leaf column that is read.
+/// footer tells it of the row group or of each of its column chunks, and the statistics of each leaf
+/// column that is read.
 #[derive(Debug, Drop)]
 pub struct GroupStats {
     pub rows: u64,
     pub size: Option<u64>,
     pub stats: Vec<StatsSet>,
+}
+
+// Returns the size of each column chunk, if it is told.
+fn sizes_of(alloc: Global, columns: &[&[u8]]) -> Result<Vec<Option<u64>>, ReadError>
+    ensures { Gives (λ v. v.items) result
+        (spec.all_of chunk_size (map (λ s. s.now) columns.now)) }
+{
+    let mut sizes = Vec::with_capacity(alloc, columns.len())?;
+    for column in columns {
+        sizes.push(records::chunk_size(alloc, column)?)?;
+    }
+    Ok(sizes)
+}
+
+// Returns the sum of sizes, if each is told and it fits 64 bits.
+fn sum_of(sizes: &[Option<u64>]) -> Option<u64>
+    ensures { result ≡ spec.sum_of sizes.now }
+{
+    let mut sum: u64 = 0;
+    for size in sizes {
+        let size = (*size)?;
+        sum = sum.checked_add(size)?;
+    }
+    Some(sum)
+}
+
+// Returns the size of a row group: as it is told, and else that of its column chunks together.
+#[tactic(auto, unfolding(crate::specs::Stats::size_of))]
+fn size_of(alloc: Global, group: &RowGroup<'_>) -> Result<Option<u64>, ReadError>
+    ensures { Gives (λ n. n) result
+        (spec.size_of group.now.size (map (λ s. s.now) group.now.columns.items)) }
+{
+    match group.size {
+        Some(size) => Ok(Some(size)),
+        None => {
+            let sizes = sizes_of(alloc, &group.columns)?;
+            Ok(sum_of(&sizes))
+        }
+    }
 }
 
 // Returns the statistics of a row group, of a file with so many leaf columns.
@@ -403,9 +493,10 @@ fn group_of(
         return Err(ReadError::Fault(Fault::Columns));
     }
     let stats = leaf_sets(alloc, orders, &group.columns, leaves)?;
+    let size = size_of(alloc, group)?;
     Ok(GroupStats {
         rows: group.rows,
-        size: group.size,
+        size,
         stats,
     })
 }

@@ -7,4 +7,4 @@ use Rattle.vortex_parquet.proofs.Loops.{with_all}
 use Rattle.vortex_parquet.proofs.pages.pages_in.Given as goal
 
 abbrev pub invariant-loop-place : goal.invariant-loop-place
-invariant-loop-place l = with_all (map page_view l.pages.items) (all_of (page_at l.rows (index_view l.index) l.locations) (drop l.place (range_with_len 0 (length l.locations)))) ≡ pages_in l.rows (index_view l.index) l.locations
+invariant-loop-place l = with_all (map page_view l.pages.items) (all_of (page_at l.rows l.nullability (index_view l.index) l.locations) (drop l.place (range_with_len 0 (length l.locations)))) ≡ pages_in l.rows l.nullability (index_view l.index) l.locations
