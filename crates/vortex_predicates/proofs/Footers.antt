@@ -1,5 +1,6 @@
 -- Proofs of pruning row groups and pages by a condition in SQL.
 pub mod Choices
+pub mod FooterWitnesses
 pub mod MentionLoop
 pub mod Names
 pub mod PageGroups
@@ -8,3 +9,6 @@ pub mod PageWitness
 pub mod RangeLoops
 pub mod Slices
 pub mod Sound
+pub mod Refusing
+mod ChoiceRows
+mod VerdictRows

@@ -18,6 +18,7 @@ pub mod Carried
 pub mod Conditions
 pub mod Footers
 pub mod Found
+pub mod LawWitnesses
 pub mod OneSidedWitnesses
 pub mod PredicateWitnesses
 pub mod RowGroups

@@ -5,7 +5,7 @@ use Rattle.std.proofs.Common.{◌∙◌, ap, arith, subst, sym}
 use Rattle.vortex_base.specs.declared.dtype.DType.{DType}
 use Rattle.vortex_base.specs.declared.dtype.DType.TheVariants as dtype
 use Rattle.vortex_base.specs.declared.scalar_value.ScalarValue.{ScalarValue}
-use Rattle.vortex_base.specs.Data.Columns.{cell_value}
+use Rattle.vortex_base.specs.Data.Columns.{ChunkData, IsChunk, cell_value}
 use Rattle.vortex_base.specs.Data.Scalars.{Constant}
 use Rattle.vortex_base.specs.Data.Values.{value_cmp}
 use Rattle.vortex_base.specs.declared.types.Nullability.TheVariants.{Nullable}
@@ -21,15 +21,18 @@ use Rattle.vortex_normal.specs.Tested.{IsTestOf, passes}
 use Rattle.vortex_predicates.proofs.RightProofs.{skip_right, whole_right}
 use Rattle.vortex_predicates.specs.Complete.{is_decided}
 use Rattle.vortex_predicates.specs.NullBoxes.{FindsCertain, HasTestForms, IsCertain, IsNullBoxOf, IsPossible, IsPossibleCell, NullBox, SkipsImpossible, is_null_decided}
-use Rattle.vortex_predicates.specs.Pruning.{FindsNoFewerWhole, HasRowsOf, IsMadeBy, IsRight, IsTestForm, Pruning, SkipsNoFewer, SkipsUnsatisfiable, is_within, making_causes, skip_proof, skipped_places, whole_places, whole_proof}
+use Rattle.vortex_predicates.specs.Pruning.{Falsifies, FindsNoFewerWhole, HasRowsOf, IsMadeBy, IsRight, IsTestForm, Pruning, Satisfies, SkipsNoFewer, SkipsUnsatisfiable, is_test_within, is_within, making_causes, skip_proof, skipped_places, whole_places, whole_proof}
 use Rattle.vortex_prune.proofs.Scanning.Boxes.{skipping_is_complete}
 use Rattle.vortex_prune.proofs.WorkedRows.ShutRows.{neither}
-use Rattle.vortex_prune.proofs.WorkedRows.Witnesses.Parts.{a, above_ten, high, high_is_in_its_zone, high_is_true, is_map, low, their_map, zones}
+use Rattle.vortex_prune.proofs.WorkedRows.Witnesses.Parts.{a, above_ten, high, high_is_in_its_zone, high_is_part, high_is_true, is_map, low, low_is_in_its_zone, low_is_part, low_is_true, their_map, zones}
 use Rattle.vortex_zone_map.proofs.WorkedRows.Witnesses.{IsWitness, i64_type, num, scope}
 use Rattle.vortex_prune.proofs.WorkedRows.Witnesses.Pruning.{answered_is_not_refused, built_in, open_is_not_memory, own_rules, shut}
+use Rattle.vortex_prune.proofs.Honesty.HonestParts.{part_is_honest}
+use Rattle.vortex_prune.specs.Binding.PartAnswers.{part_values}
 use Rattle.vortex_prune.specs.Part.{zone_of}
+use Rattle.vortex_prune.specs.Scanning.Selection.{proves_of}
 use Rattle.vortex_prune.specs.Scanning.Complete.{IsBoxIn}
-use Rattle.vortex_prune.specs.Scanning.ZoneScans.{IsSoundPruning, kept_zones, open_causes, zone_verdicts}
+use Rattle.vortex_prune.specs.Scanning.ZoneScans.{AreRowVerdicts, IsSoundPruning, kept_zones, open_causes, zone_verdicts}
 use Rattle.vortex_zone_map.specs.ZoneMaps.{IsMapOf, MapData}
 use Rattle.vortex_prune.specs.declared.scan.verdict.Verdict.{Verdict}
 use Rattle.vortex_prune.specs.declared.scan.verdict.Verdict.TheVariants.{Skipped, Whole, Tested}
@@ -37,8 +40,9 @@ use Rattle.vortex_rewrite.proofs.Soundness.TruthLogic.{refuted as not_so}
 use Rattle.vortex_rewrite.proofs.Soundness.ValueTests.{holds_by_le, le_antisym, le_trans, value_le}
 use Rattle.vortex_rewrite.specs.Answers.{IsMemory}
 use Rattle.vortex_rewrite.specs.Causes.{IsRefusal, either_causes}
-use Rattle.vortex_rewrite.specs.Rewriting.Falsifiers.{node, reduce_balanced}
-use Rattle.vortex_rewrite.specs.Rewriting.Lawful.{OwnRule}
+use Rattle.vortex_rewrite.specs.Facts.{IsHonest}
+use Rattle.vortex_rewrite.specs.Rewriting.Falsifiers.{bool_literal, node, reduce_balanced}
+use Rattle.vortex_rewrite.specs.Rewriting.Lawful.{IsOver, OwnRule, is_of_scope}
 use Rattle.vortex_rewrite.specs.Rewriting.Predicates.{is_predicate}
 use Rattle.vortex_rewrite.specs.Rewriting.ReadOnce.{Box, IsInOrder, IsSatisfiable, has_disjoint_ands}
 use Rattle.vortex_rewrite.specs.Rewriting.RuleRefusals.{SomeAsked}
@@ -53,7 +57,7 @@ place_a = record { index = 0; dtype = i64_type }
 
 -- ---- a predicate with its proofs by the built-in rules
 
-abbrev made : Pruning
+abbrev pub made : Pruning
 made = record { predicate = above_ten; falsifier = skip_proof [] None above_ten; satisfier = whole_proof [] None above_ten }
 
 is_made : IsMadeBy [] None made
@@ -61,7 +65,7 @@ is_made = record { falsifier = refl; satisfier = refl }
 
 -- ---- its proofs are right: its other forms are satisfied by the same rows
 
-same_form : HasRowsOf above_ten (normal above_ten)
+pub same_form : HasRowsOf above_ten (normal above_ten)
 unfolding all_of any_of comparison comparison_of folded settled
 same_form = record { predicate = refl; same = λ row n r f small. refl; columns = λ test h. h; plain = λ h. refl }
 
@@ -112,7 +116,7 @@ untrue_form : IsTestForm false true above_ten (strict_test false true above_ten)
 unfolding all_of any_of comparison comparison_of folded settled
 untrue_form = record { predicate = refl; test = untrue_test; columns = λ test h. named_twice_behind (test place_a) h; plain = λ h. refl }
 
-is_right : IsRight made
+pub is_right : IsRight made
 is_right = record {
   predicate = refl;
   plain = refl;
@@ -129,19 +133,19 @@ joining = (place_a, refl, refl, selective)
 
 -- ---- the first zone has to be skipped: its only value is 3
 
-abbrev low_box : Box
+abbrev pub low_box : Box
 low_box = record { low = λ i. num 3; high = λ i. num 3 }
 
-low_box_known : IsBoxIn (zone_of low).stats above_ten low_box
+pub low_box_known : IsBoxIn (zone_of low).stats above_ten low_box
 low_box_known = ((refl, refl), tt)
 
-low_box_ordered : IsInOrder above_ten low_box
+pub low_box_ordered : IsInOrder above_ten low_box
 low_box_ordered = (refl, tt)
 
 abbrev bool_type : DType
 bool_type = dtype.Bool Nullable
 
-none_above : ¬ IsSatisfiable above_ten low_box 2
+pub none_above : ¬ IsSatisfiable above_ten low_box 2
 unfolding node reduce_balanced
 none_above = (skipping_is_complete above_ten bool_type scope (zone_of low) low_box refl refl refl refl refl low_box_known low_box_ordered).0 refl
 
@@ -187,13 +191,29 @@ prune_verdicts : IsWitness (IsCall made their_map × IsMapOf zones their_map) (�
 unfolding node reduce_balanced all_of any_of comparison comparison_of folded settled
 prune_verdicts = record { met = (called, is_map); refuted = tested_is_not_skipped }
 
--- a zone with rows that satisfy is skipped, and one without is whole
+-- a zone with rows that satisfy is skipped
 prune_sound : IsWitness (IsCall made their_map × IsMapOf zones their_map)
-    (λ (vs : List Verdict). IsSoundPruning made.predicate their_map.scope zones (skipped_places vs) (whole_places vs)) (Whole ∷ Tested ∷ Skipped ∷ [])
+    (λ (vs : List Verdict). IsSoundPruning made.predicate their_map.scope zones (skipped_places vs) (whole_places vs)) (Tested ∷ Tested ∷ Skipped ∷ [])
 prune_sound = record {
   met = (called, is_map);
   refuted = λ h. true≢false ((h 2 (zone_of high) high refl high_is_in_its_zone high_is_true).0 (0, omega arith, refl) 0 (omega arith));
 }
+
+-- a zone without rows that satisfy is whole
+prune_sound_of_whole : IsWitness (IsCall made their_map × IsMapOf zones their_map)
+    (λ (vs : List Verdict). IsSoundPruning made.predicate their_map.scope zones (skipped_places vs) (whole_places vs)) (Whole ∷ Tested ∷ Tested ∷ [])
+prune_sound_of_whole = record {
+  met = (called, is_map);
+  refuted = λ h. shut ((h 0 (zone_of low) low refl low_is_in_its_zone low_is_true).1 (0, omega arith, refl) 0 (omega arith));
+}
+
+tested_is_skipped : Tested ≡ Skipped → ⊥
+tested_is_skipped h = cc
+
+-- the first row of the map's table skips its zone
+prune_rows : IsWitness (IsCall made their_map × (slice_get their_map.rows 0 ≡ Some 2)) (λ (vs : List Verdict). AreRowVerdicts made.falsifier made.satisfier their_map vs) left_out
+unfolding node reduce_balanced all_of any_of comparison comparison_of folded settled
+prune_rows = record { met = (called, refl); refuted = λ h. tested_is_skipped (h 0 2 Tested refl refl) }
 
 pub low_is_not_there : SkipsNoFewer [] above_ten scope zones (skipped_places left_out) → ⊥
 unfolding node reduce_balanced
@@ -207,11 +227,11 @@ prune_no_fewer_skipped = record { met = (called, is_map, is_made); refuted = low
 abbrev pub first_place : List ℕ
 first_place = 0 ∷ []
 
-not_the_third : Contains first_place 2 → ⊥
+pub not_the_third : Contains first_place 2 → ⊥
 not_the_third (zero, less, is) = cc
 not_the_third (suc k, less, is) = absurd (omega (arith, less))
 
-high_is_not_there : FindsNoFewerWhole [] above_ten scope zones first_place [] → ⊥
+pub high_is_not_there : FindsNoFewerWhole [] above_ten scope zones first_place [] → ⊥
 unfolding node reduce_balanced
 high_is_not_there h = neither not_the_third (none_there 2) (h 2 (zone_of high) refl (0, omega arith, refl))
 
@@ -311,6 +331,39 @@ try_new_not_predicate = record { met = (refl, refl); refuted = λ h. answered_is
 try_new_memory : IsWitness (IsTrue (is_plain above_ten) × IsTrue (is_predicate above_ten) × (built_in ≡ [])) (λ (e : StatsError). IsMemory e) OpenProof
 try_new_memory = record { met = (refl, refl, refl); refuted = open_is_not_memory }
 
+-- a column of numbers is no form of a test
+number_is_no_form : (wanted with_null : Bool) → IsTestForm wanted with_null above_ten a → ⊥
+number_is_no_form wanted with_null h = shut h.predicate
+
+try_new_true_form : IsWitness (IsTrue (is_plain above_ten) × IsTrue (is_test_within None true false above_ten)) (λ (form : Tree Place). IsTestForm true false above_ten form) a
+try_new_true_form = record { met = (refl, refl); refuted = number_is_no_form true false }
+
+try_new_untrue_form : IsWitness (IsTrue (is_plain above_ten) × IsTrue (is_test_within None false true above_ten)) (λ (form : Tree Place). IsTestForm false true above_ten form) a
+try_new_untrue_form = record { met = (refl, refl); refuted = number_is_no_form false true }
+
+-- one that is always true is a proof of a part of which the right one isn't
+abbrev always : Option (Tree Place)
+always = Some (bool_literal true)
+
+of_scope : (k : ChunkData) → IsTrue (is_of_scope above_ten k.scope) → IsOver above_ten k
+of_scope k h = record { typed = refl; over = h }
+
+try_new_falsifies : IsWitness (IsChunk low.chunk × IsOver above_ten low.chunk × IsHonest (part_values low) low.chunk.columns × IsTrue (proves_of made.falsifier 2 (part_values low)))
+    (λ (proof : Option (Tree Place)). Falsifies proof above_ten) always
+unfolding node reduce_balanced all_of any_of comparison comparison_of folded settled
+try_new_falsifies = record {
+  met = (refl, of_scope low.chunk refl, part_is_honest low low_is_part low_is_true, refl);
+  refuted = λ h. true≢false (h high.chunk (part_values high) refl (of_scope high.chunk refl) (part_is_honest high high_is_part high_is_true) refl 0 (omega arith));
+}
+
+try_new_satisfies : IsWitness (IsChunk high.chunk × IsOver above_ten high.chunk × IsHonest (part_values high) high.chunk.columns × IsTrue (proves_of made.satisfier 2 (part_values high)))
+    (λ (proof : Option (Tree Place)). Satisfies proof above_ten) always
+unfolding node reduce_balanced all_of any_of comparison comparison_of folded settled
+try_new_satisfies = record {
+  met = (refl, of_scope high.chunk refl, part_is_honest high high_is_part high_is_true, refl);
+  refuted = λ h. shut (h low.chunk (part_values low) refl (of_scope low.chunk refl) (part_is_honest low low_is_part low_is_true) refl 0 (omega arith));
+}
+
 -- the rule of the user is asked at a NOT, and doesn't name the fault 3
 abbrev not_above : Tree Place
 not_above = not above_ten
@@ -340,6 +393,22 @@ try_new_within_memory = try_new_memory
 
 try_new_within_refusal : IsWitness (IsTrue (is_plain not_above) × IsTrue (is_predicate not_above)) (λ (e : StatsError). IsRefusal (making_causes own_rules not_above) e) (Rule (Own 3))
 try_new_within_refusal = try_new_refusal
+
+try_new_within_true_form : IsWitness (IsTrue (is_plain above_ten) × IsTrue (is_test_within (Some 2) true false above_ten)) (λ (form : Tree Place). IsTestForm true false above_ten form) a
+unfolding all_of any_of comparison comparison_of folded settled
+try_new_within_true_form = record { met = (refl, refl); refuted = number_is_no_form true false }
+
+try_new_within_untrue_form : IsWitness (IsTrue (is_plain above_ten) × IsTrue (is_test_within (Some 4) false true above_ten)) (λ (form : Tree Place). IsTestForm false true above_ten form) a
+unfolding all_of any_of comparison comparison_of folded settled
+try_new_within_untrue_form = record { met = (refl, refl); refuted = number_is_no_form false true }
+
+try_new_within_falsifies : IsWitness (IsChunk low.chunk × IsOver above_ten low.chunk × IsHonest (part_values low) low.chunk.columns × IsTrue (proves_of made.falsifier 2 (part_values low)))
+    (λ (proof : Option (Tree Place)). Falsifies proof above_ten) always
+try_new_within_falsifies = try_new_falsifies
+
+try_new_within_satisfies : IsWitness (IsChunk high.chunk × IsOver above_ten high.chunk × IsHonest (part_values high) high.chunk.columns × IsTrue (proves_of made.satisfier 2 (part_values high)))
+    (λ (proof : Option (Tree Place)). Satisfies proof above_ten) always
+try_new_within_satisfies = try_new_satisfies
 
 -- ---- whether pruning by it is complete
 

@@ -37,8 +37,9 @@ use Rattle.vortex_stats.specs.Sets.Entries.{entries_fit, entry_value}
 use Rattle.vortex_sql.specs.declared.syntax.tree.Leaf.{Leaf}
 use Rattle.vortex_sql.specs.declared.syntax.tree.Condition.{Condition}
 use Rattle.vortex_sql.specs.Lowering.{Says, opaques}
+use Rattle.vortex_sql.specs.Pruning.{Confirmed, Refuted, ConfirmsCondition, RefutesCondition, told_column, with_columns}
 use Rattle.vortex_sql.specs.Readings.{bool_or_null}
-use Rattle.vortex_sql.specs.Pruning.{Confirmed, ConfirmsCondition, Refuted, RefutesCondition, told_column, with_columns}
+use Rattle.vortex_sql.specs.Schemas.{SchemaData}
 use Rattle.vortex_predicates.specs.Conditions.Conditions.{AreColumnsOf, ProofsTell, widened_zone}
 
 -- ---- lists side by side, and one behind the other
@@ -251,8 +252,8 @@ module _ (scope more : List Named) (f : Leaf → Option Bool) (ls : List Leaf) (
 
 -- ---- the law
 
-module _ (scope more : List Named) (c : Condition) (x : Pruning) (wide : IsScope (scope ++ more)) (says : Says scope c x.predicate) (columns : AreColumnsOf more (opaques scope c))
-    (fits : IsTrue (fits_scope x.predicate (scope ++ more))) (right : IsRight x) (zone : ZoneData) (part : PartData) (of : IsPartOf scope zone part) (true_part : IsTruePart part) where
+module _ (s : SchemaData) (more : List Named) (c : Condition) (x : Pruning) (wide : IsScope (s.scope ++ more)) (says : Says s c x.predicate) (columns : AreColumnsOf more (opaques s c))
+    (fits : IsTrue (fits_scope x.predicate (s.scope ++ more))) (right : IsRight x) (zone : ZoneData) (part : PartData) (of : IsPartOf s.scope zone part) (true_part : IsTruePart part) where
   abbrev own : List ColumnData
   own = part.chunk.columns
 
@@ -261,61 +262,50 @@ module _ (scope more : List Named) (c : Condition) (x : Pruning) (wide : IsScope
 
   -- the columns with those that tell of leaves
   abbrev wide_columns : (Leaf → Option Bool) → List ColumnData
-  wide_columns f = with_columns (row_count part.chunk.columns) f (opaques scope c) part.chunk.columns
+  wide_columns f = with_columns (row_count part.chunk.columns) f (opaques s c) part.chunk.columns
 
-  over : (f : Leaf → Option Bool) → IsOver x.predicate (told_part scope more f (opaques scope c) part).chunk
-  over f = is_over_chunk x.predicate (told_part scope more f (opaques scope c) part).chunk (predicate_typed (type_of x.predicate) right.predicate) right.plain fits
+  over : (f : Leaf → Option Bool) → IsOver x.predicate (told_part s.scope more f (opaques s c) part).chunk
+  over f = is_over_chunk x.predicate (told_part s.scope more f (opaques s c) part).chunk (predicate_typed (type_of x.predicate) right.predicate) right.plain fits
 
   -- where each row of the wide part satisfies the predicate or doesn't, whatever is told of the leaves
   abbrev IsAnswered : Bool → ℕ → Type 0
   IsAnswered b r = (f : Leaf → Option Bool) → satisfies x.predicate (row_of r (wide_columns f)) count ≡ b
 
   rows_wide : (f : Leaf → Option Bool) → row_count (wide_columns f) ≡ count
-  rows_wide f = wide_rows scope more f (opaques scope c) wide columns part of.is_part of.scoped
+  rows_wide f = wide_rows s.scope more f (opaques s c) wide columns part of.is_part of.scoped
 
   -- a proof that is true by the zone's statistics is true over the wide part
-  proved_wide : (f : Leaf → Option Bool) (proof : Option (Tree Place)) → proves_of proof zone.rows (told_values scope zone) ≡ true → proves_of proof (row_count (wide_columns f)) (told_values scope zone) ≡ true
+  proved_wide : (f : Leaf → Option Bool) (proof : Option (Tree Place)) → proves_of proof zone.rows (told_values s.scope zone) ≡ true → proves_of proof (row_count (wide_columns f)) (told_values s.scope zone) ≡ true
   proved_wide f proof h =
       let same : row_count (wide_columns f) ≡ zone.rows = rows_wide f ∙ ap (λ (z : ZoneData). z.rows) of.known in
-      ap (λ m. proves_of proof m (told_values scope zone)) same ∙ h
+      ap (λ m. proves_of proof m (told_values s.scope zone)) same ∙ h
 
   to_own : (b : Bool) (r : ℕ) → r < count → ((f : Leaf → Option Bool) → r < row_count (wide_columns f) → satisfies x.predicate (row_of r (wide_columns f)) (row_count (wide_columns f)) ≡ b) → IsAnswered b r
   to_own b r below h f =
       subst (λ (m : ℕ). satisfies x.predicate (row_of r (wide_columns f)) m ≡ b) (rows_wide f) (h f (subst (λ (m : ℕ). r < m) (sym (rows_wide f)) below))
 
-  none_satisfies : proves_of x.falsifier zone.rows (told_values scope zone) ≡ true → (r : ℕ) → r < count → IsAnswered false r
+  none_satisfies : proves_of x.falsifier zone.rows (told_values s.scope zone) ≡ true → (r : ℕ) → r < count → IsAnswered false r
   none_satisfies h r below =
       to_own false r below
-      (λ f less. right.falsifies (told_part scope more f (opaques scope c) part).chunk (told_values scope zone)
-      (wide_chunk scope more f (opaques scope c) wide columns part of.is_part of.scoped) (over f)
-      (wide_honest scope more f (opaques scope c) wide columns part of.is_part of.scoped zone of.known true_part) (proved_wide f x.falsifier h) r less)
+      (λ f less. right.falsifies (told_part s.scope more f (opaques s c) part).chunk (told_values s.scope zone)
+      (wide_chunk s.scope more f (opaques s c) wide columns part of.is_part of.scoped) (over f)
+      (wide_honest s.scope more f (opaques s c) wide columns part of.is_part of.scoped zone of.known true_part) (proved_wide f x.falsifier h) r less)
 
-  each_satisfies : proves_of x.satisfier zone.rows (told_values scope zone) ≡ true → (r : ℕ) → r < count → IsAnswered true r
+  each_satisfies : proves_of x.satisfier zone.rows (told_values s.scope zone) ≡ true → (r : ℕ) → r < count → IsAnswered true r
   each_satisfies h r below =
       to_own true r below
-      (λ f less. right.satisfies (told_part scope more f (opaques scope c) part).chunk (told_values scope zone)
-      (wide_chunk scope more f (opaques scope c) wide columns part of.is_part of.scoped) (over f)
-      (wide_honest scope more f (opaques scope c) wide columns part of.is_part of.scoped zone of.known true_part) (proved_wide f x.satisfier h) r less)
+      (λ f less. right.satisfies (told_part s.scope more f (opaques s c) part).chunk (told_values s.scope zone)
+      (wide_chunk s.scope more f (opaques s c) wide columns part of.is_part of.scoped) (over f)
+      (wide_honest s.scope more f (opaques s c) wide columns part of.is_part of.scoped zone of.known true_part) (proved_wide f x.satisfier h) r less)
 
-  says_there : Says part.chunk.scope c x.predicate
-  says_there = subst (λ (s : List Named). Says s c x.predicate) (sym of.scoped) says
+  refuted : RefutesCondition → proves_of x.falsifier zone.rows (told_values s.scope zone) ≡ true → (r : ℕ) → r < count → Refuted s c own r
+  refuted law h r below = law part.chunk s c x.predicate (sym of.scoped) of.is_part.0 says r below (none_satisfies h r below)
 
-  -- the same, with the scope as the part names it
-  abbrev Answered : Bool → ℕ → List Named → Type 0
-  Answered b r s = (f : Leaf → Option Bool) → satisfies x.predicate (row_of r (with_columns count f (opaques s c) own)) count ≡ b
-
-  refuted : RefutesCondition → proves_of x.falsifier zone.rows (told_values scope zone) ≡ true → (r : ℕ) → r < count → Refuted scope c own r
-  refuted law h r below =
-      subst (λ (s : List Named). Refuted s c own r) of.scoped
-      (law part.chunk c x.predicate of.is_part.0 says_there r below (subst (Answered false r) (sym of.scoped) (none_satisfies h r below)))
-
-  confirmed : ConfirmsCondition → proves_of x.satisfier zone.rows (told_values scope zone) ≡ true → (r : ℕ) → r < count → Confirmed scope c own r
-  confirmed law h r below =
-      subst (λ (s : List Named). Confirmed s c own r) of.scoped
-      (law part.chunk c x.predicate of.is_part.0 says_there r below (subst (Answered true r) (sym of.scoped) (each_satisfies h r below)))
+  confirmed : ConfirmsCondition → proves_of x.satisfier zone.rows (told_values s.scope zone) ≡ true → (r : ℕ) → r < count → Confirmed s c own r
+  confirmed law h r below = law part.chunk s c x.predicate (sym of.scoped) of.is_part.0 says r below (each_satisfies h r below)
 
 pub tell : RefutesCondition → ConfirmsCondition → ProofsTell
-tell refutes confirms scope more c x wide says columns fits right = (
-  (λ zone part of true_part h r below. refuted scope more c x wide says columns fits right zone part of true_part refutes h r below),
-  (λ zone part of true_part h r below. confirmed scope more c x wide says columns fits right zone part of true_part confirms h r below),
+tell refutes confirms s more c x wide says columns fits right = (
+  (λ zone part of true_part h r below. refuted s more c x wide says columns fits right zone part of true_part refutes h r below),
+  (λ zone part of true_part h r below. confirmed s more c x wide says columns fits right zone part of true_part confirms h r below),
 )

@@ -21,8 +21,9 @@ use Rattle.vortex_rewrite.specs.Rewriting.Predicates.{has_type, is_predicate}
 use Rattle.vortex_rewrite.specs.Rewriting.Proof.{is_open}
 use Rattle.vortex_sql.specs.declared.syntax.tree.Leaf.{Leaf}
 use Rattle.vortex_sql.specs.declared.syntax.tree.Condition.{Condition}
-use Rattle.vortex_sql.specs.Lowering.{Says, is_bool_type, is_of_bool, opaques, span_of, types_of}
+use Rattle.vortex_sql.specs.Lowering.{Says, opaques, is_bool_type, is_of_bool, span_of, types_of}
 use Rattle.vortex_sql.specs.Readings.{bool_or_null}
+use Rattle.vortex_sql.specs.Schemas.{SchemaData}
 use Rattle.vortex_predicates.specs.Conditions.Conditions.{AreColumnsOf, AreProofsOf, Confirms, IsSoundFor, ProofsTell, Refutes}
 
 -- ---- a condition's predicate is one
@@ -45,24 +46,24 @@ are_columns more ls spans h k = k ∙ ap (map (λ span. bool_or_null)) h ∙ lea
 
 -- ---- the proofs of a condition's predicate
 
-module _ (law : ProofsTell) (scope wide : List Named) (c : Condition) (e : Tree Place) (spans : List (ℕ × ℕ)) (x : Pruning) (is_scope : IsScope wide)
-    (parts : (more : List Named) × (wide ≡ scope ++ more) × (types_of more ≡ map (λ span. bool_or_null) spans)) (opaque : spans ≡ map span_of (opaques scope c)) (says : Says scope c e) (fits : IsTrue (fits_scope e wide))
+module _ (law : ProofsTell) (s : SchemaData) (wide : List Named) (c : Condition) (e : Tree Place) (spans : List (ℕ × ℕ)) (x : Pruning) (is_scope : IsScope wide)
+    (parts : (more : List Named) × (wide ≡ s.scope ++ more) × (types_of more ≡ map (λ span. bool_or_null) spans)) (opaque : spans ≡ map span_of (opaques s c)) (says : Says s c e) (fits : IsTrue (fits_scope e wide))
     (same : x.predicate ≡ e) (right : IsRight x) where
-  told : Refutes scope c x.falsifier × Confirms scope c x.satisfier
+  told : Refutes s c x.falsifier × Confirms s c x.satisfier
   told =
-      law scope parts.0 c x (subst IsScope parts.1 is_scope) (subst (Says scope c) (sym same) says) (are_columns parts.0 (opaques scope c) spans opaque parts.2)
-      (subst₂ (λ (p : Tree Place) (s : List Named). IsTrue (fits_scope p s)) (sym same) parts.1 fits) right
+      law s parts.0 c x (subst IsScope parts.1 is_scope) (subst (Says s c) (sym same) says) (are_columns parts.0 (opaques s c) spans opaque parts.2)
+      (subst₂ (λ (p : Tree Place) (ns : List Named). IsTrue (fits_scope p ns)) (sym same) parts.1 fits) right
 
-  pub refutes_of : Refutes scope c x.falsifier
+  pub refutes_of : Refutes s c x.falsifier
   refutes_of = told.0
 
-  pub confirms_of : Confirms scope c x.satisfier
+  pub confirms_of : Confirms s c x.satisfier
   confirms_of = told.1
 
-  pub says_of : Says scope c x.predicate
-  says_of = subst (Says scope c) (sym same) says
+  pub says_of : Says s c x.predicate
+  says_of = subst (Says s c) (sym same) says
 
-  pub proofs_of : AreProofsOf (record { scope = scope; condition = c; predicate = x.predicate; falsifier = x.falsifier; satisfier = x.satisfier })
+  pub proofs_of : AreProofsOf (record { scope = s.scope; logical = s.logical; condition = c; predicate = x.predicate; falsifier = x.falsifier; satisfier = x.satisfier })
   proofs_of = record { says = says_of; refutes = told.0; confirms = told.1 }
 
 -- by built-in rules they have no column outside their placeholders
@@ -74,21 +75,21 @@ closed_by own levels x none made = (
 
 -- ---- verdicts
 
-module _ (scope : List Named) (c : Condition) (f s : Option (Tree Place)) (refutes : Refutes scope c f) (confirms : Confirms scope c s)
-    (zones : List ZoneData) (vs : List Verdict) (is : vs ≡ zone_verdicts f s scope zones) where
+module _ (columns : SchemaData) (c : Condition) (f s : Option (Tree Place)) (refutes : Refutes columns c f) (confirms : Confirms columns c s)
+    (zones : List ZoneData) (vs : List Verdict) (is : vs ≡ zone_verdicts f s columns.scope zones) where
   abbrev told_true : Option (Tree Place) → ZoneData → Bool
-  told_true o zone = proves_of o zone.rows (told_values scope zone)
+  told_true o zone = proves_of o zone.rows (told_values columns.scope zone)
 
   skipped_true : (i : ℕ) (zone : ZoneData) → slice_get zones i ≡ Some zone → Contains (skipped_places vs) i → told_true f zone ≡ true
   skipped_true i zone there h =
-      (place_listed (told_true f) zones i zone there).0 (subst (λ l. Contains l i) (ap (places_where is_skipped) is ∙ skipped_listed f s scope zones) h)
+      (place_listed (told_true f) zones i zone there).0 (subst (λ l. Contains l i) (ap (places_where is_skipped) is ∙ skipped_listed f s columns.scope zones) h)
 
   whole_true : (i : ℕ) (zone : ZoneData) → slice_get zones i ≡ Some zone → Contains (whole_places vs) i → told_true s zone ≡ true
   whole_true i zone there h =
       whole_proved (told_true f zone) (told_true s zone)
-      ((place_listed (λ z. is_whole (zone_verdict f s scope z)) zones i zone there).0 (subst (λ l. Contains l i) (ap (places_where is_whole) is ∙ whole_listed f s scope zones) h))
+      ((place_listed (λ z. is_whole (zone_verdict f s columns.scope z)) zones i zone there).0 (subst (λ l. Contains l i) (ap (places_where is_whole) is ∙ whole_listed f s columns.scope zones) h))
 
-  pub sound_for : IsSoundFor scope c zones (skipped_places vs) (whole_places vs)
+  pub sound_for : IsSoundFor columns c zones (skipped_places vs) (whole_places vs)
   sound_for i zone part there of true_part = (
     (λ h r below. refutes zone part of true_part (skipped_true i zone there h) r below),
     (λ h r below. confirms zone part of true_part (whole_true i zone there h) r below),

@@ -1,6 +1,6 @@
 -- Columns are chosen name by name.
 use Rattle.std.proofs.Common.{◌≡◌, ◌<◌, ◌+◌, ℕ, zero, suc, Bool, true, false, cond, List, [], ◌∷◌, ◌++◌, Option, None, Some, length, map, take, drop, get_or, inl, inr, refl, ap, sym, subst, ◌∙◌, add-one, drop-cons, take-append-drop, arith}
-use Rattle.std.specs.Prelude.{Contains, is_none, not, slice_get}
+use Rattle.std.specs.Prelude.{Contains, is_none, slice_get}
 use Rattle.std.specs.List.{list_all}
 use Rattle.std.proofs.lemmas.List.{drop-map, map_push, take-map}
 use Rattle.std.proofs.Math.Seq.{take-suc}
@@ -18,7 +18,7 @@ use Rattle.vortex_parquet.specs.declared.columns.Form.{Form}
 use Rattle.vortex_parquet.specs.declared.columns.Form.TheVariants as form
 use Rattle.vortex_parquet.specs.declared.columns.Leaf.{Leaf}
 use Rattle.vortex_syntax.proofs.Fitting.ScopeFits.{storable_more}
-use Rattle.vortex_predicates.specs.Footers.Choosing.{AreChosen, IsReadAs, is_plain, is_taken, leaf_in, no_column, reason}
+use Rattle.vortex_predicates.specs.Footers.Choosing.{AreChosen, IsReadAs, is_read, is_taken, leaf_in, no_column, reason}
 use Rattle.vortex_predicates.specs.Footers.Mentions.{MentionData, view, views}
 use Rattle.vortex_predicates.specs.Footers.Refusals.{IsLeftOutBy, IsLeftOutOf}
 use Rattle.vortex_predicates.specs.declared.parquet.error.FooterError.{FooterError}
@@ -42,27 +42,27 @@ place_found : (scope : List Named) (o : Option ℕ) (p : Place) → found scope 
 place_found scope None p h = absurd cc
 place_found scope (Some i) p h = (i, refl)
 
-plain_is : (b : Bool) (l k : Leaf) → cond b None (Some l) ≡ Some k → (l ≡ k) × (b ≡ false)
-plain_is true l k h = absurd cc
-plain_is false l k h = (let same : l ≡ k = cc in same, refl)
+read_is : (b : Bool) (l k : Leaf) → cond b (Some l) None ≡ Some k → (l ≡ k) × (b ≡ true)
+read_is true l k h = (let same : l ≡ k = cc in same, refl)
+read_is false l k h = absurd cc
 
-read_as : (o : Option Content) (k : Leaf) → leaf_in o ≡ Some k → (o ≡ Some (content.Leaf k)) × (is_plain k ≡ true)
+read_as : (o : Option Content) (k : Leaf) → leaf_in o ≡ Some k → (o ≡ Some (content.Leaf k)) × (is_read k ≡ true)
 read_as None k h = absurd cc
 read_as (Some (content.LeftOut why)) k h = absurd cc
 read_as (Some (content.Leaf l)) k h =
-    let t = plain_is l.is_raw l k h in
-    (ap (λ x. Some (content.Leaf x)) t.0, ap (λ x. not x.is_raw) (sym t.0) ∙ ap not t.1)
+    let t = read_is (is_read l) l k h in
+    (ap (λ x. Some (content.Leaf x)) t.0, ap is_read (sym t.0) ∙ t.1)
 
-not_raw : (b : Bool) (l : Leaf) → cond b None (Some l) ≡ None → not b ≡ true → ⊥
-not_raw true l h plain = cc
-not_raw false l h plain = cc
+left_out : (b : Bool) (l : Leaf) → cond b (Some l) None ≡ None → b ≡ true → ⊥
+left_out true l h plain = cc
+left_out false l h plain = cc
 
-unread_as : (o : Option Content) (l : Leaf) → leaf_in o ≡ None → o ≡ Some (content.Leaf l) → is_plain l ≡ true → ⊥
+unread_as : (o : Option Content) (l : Leaf) → leaf_in o ≡ None → o ≡ Some (content.Leaf l) → is_read l ≡ true → ⊥
 unread_as None l h e plain = cc
 unread_as (Some (content.LeftOut why)) l h e plain = cc
 unread_as (Some (content.Leaf k)) l h e plain =
     let same : k ≡ l = cc in
-    not_raw k.is_raw k h (ap (λ x. not x.is_raw) same ∙ plain)
+    left_out (is_read k) k h (ap is_read same ∙ plain)
 
 leaf_taken : (cs : List ColumnView) (m : MentionData) (l : Leaf) → lookup m.name cs ≡ Some (content.Leaf l) → is_taken cs m ≡ true
 leaf_taken cs m l h = ap (λ o. is_none (reason o)) h
@@ -108,7 +108,7 @@ module _ (cs : List ColumnView) (ms : List MentionData) (scope : List Named) (ls
   stays : is_taken cs m ≡ true → ((l : Leaf) → IsReadAs cs m.name l → Contains scope (m.name, leaf_dtype l)) → AreChosen cs (ms ++ m ∷ []) scope ls
   stays taken here = record {
     named = h.named;
-    are_plain = h.are_plain;
+    are_read = h.are_read;
     each = each_more scope (λ c there. there) here;
     only = only_more;
     taken = all_taken taken;
@@ -142,7 +142,7 @@ module _ (cs : List ColumnView) (ms : List MentionData) (scope : List Named) (ls
       let column : Named = (m.name, leaf_dtype l) in
       record {
         named = named_more cs scope ls m.name l h.named t.0;
-        are_plain = list_all-append is_plain ls (l ∷ []) ∙ rw (h.are_plain, t.1) refl;
+        are_read = list_all-append is_read ls (l ∷ []) ∙ rw (h.are_read, t.1) refl;
         each = each_more (scope ++ column ∷ []) (λ c there. Contains-append_left scope (column ∷ []) c there)
             (λ k other. let one : Some (content.Leaf l) ≡ Some (content.Leaf k) = sym t.0 ∙ other.0 in
             let same : l ≡ k = cc in
@@ -158,7 +158,7 @@ module _ (cs : List ColumnView) (ms : List MentionData) (scope : List Named) (ls
 pub none_chosen : (cs : List ColumnView) → AreChosen cs [] [] []
 none_chosen cs = record {
   named = tt;
-  are_plain = refl;
+  are_read = refl;
   each = λ m l there is. absurd (omega (arith, there.1));
   only = λ c there. absurd (omega (arith, there.1));
   taken = refl;

@@ -3,6 +3,7 @@ use Rattle.std.proofs.Common.{◌≡◌, ℕ, zero, suc, Bool, true, false, cond
 use Rattle.std.specs.Prelude.{slice_get}
 use Rattle.std.proofs.lemmas.Bool.{eq-eqb, eqb-true, lt-ltb}
 use Rattle.vortex_base.specs.Data.Exact.{both_hold}
+use Rattle.vortex_base.specs.declared.types.Nullability.{Nullability}
 use Rattle.vortex_parquet.specs.declared.columns.Leaf.{Leaf}
 use Rattle.vortex_parquet.specs.declared.fault.Fault.{Fault}
 use Rattle.vortex_parquet.specs.declared.fault.Fault.TheVariants as fault
@@ -14,7 +15,7 @@ use Rattle.vortex_parquet.specs.PageIndex.{column_index_of, offset_index_of, pla
 use Rattle.vortex_parquet.specs.Pages.{PageData, one_page, or_nothing, pages_of}
 use Rattle.vortex_parquet.specs.Reading.{◌>>=◌, Fails, Read}
 use Rattle.vortex_parquet.specs.Records.{FileData, RowGroupData, StatisticsData, chunk_of, is_number, row_group_of, row_groups_of}
-use Rattle.vortex_parquet.specs.Stats.{all_of, or_false}
+use Rattle.vortex_parquet.specs.Stats.{all_of, or_false, statistics_by}
 use Rattle.vortex_parquet.specs.Stretches.{PagedData, PagesFollow, all_follow, follow}
 use Rattle.vortex_parquet.proofs.Sound.{bind_ok, one_ok}
 use Rattle.vortex_predicates.specs.Footers.PagedGroups.{PagedGroup, all_groups_follow, chunk_pages, leaf_column, paged_at, paged_groups, paged_of}
@@ -81,18 +82,18 @@ one_follows : (rows : ℕ) (s : Option StatisticsData) → follow 0 rows (one_pa
 one_follows rows s = whole_follows rows (or_nothing s) (eqb rows 0) refl
 
 module _ (they : PagesFollow) (t : TailData) where
-  indexed_follow : (rows : ℕ) (s : Option StatisticsData) (x o : Option (List ℕ)) (ps : List PageData) → indexed rows s x o ≡ Ok ps → follow 0 rows ps ≡ true
+  indexed_follow : (rows : ℕ) (n : Nullability) (s : Option StatisticsData) (x o : Option (List ℕ)) (ps : List PageData) → indexed rows n s x o ≡ Ok ps → follow 0 rows ps ≡ true
   unfolding indexed
-  indexed_follow rows s None o ps e = subst (λ (qs : List PageData). follow 0 rows qs ≡ true) (one_ok (one_page rows s) ps e) (one_follows rows s)
-  indexed_follow rows s (Some index) None ps e = subst (λ (qs : List PageData). follow 0 rows qs ≡ true) (one_ok (one_page rows s) ps e) (one_follows rows s)
-  indexed_follow rows s (Some index) (Some offsets) ps e =
-      let a = bind_ok (column_index_of index) (λ x. offset_index_of offsets >>= λ ls. pages_of rows x ls) ps e in
-      let b = bind_ok (offset_index_of offsets) (λ ls. pages_of rows a.0 ls) ps a.2 in
-      they rows a.0 b.0 ps b.2
+  indexed_follow rows n s None o ps e = subst (λ (qs : List PageData). follow 0 rows qs ≡ true) (one_ok (one_page rows s) ps e) (one_follows rows s)
+  indexed_follow rows n s (Some index) None ps e = subst (λ (qs : List PageData). follow 0 rows qs ≡ true) (one_ok (one_page rows s) ps e) (one_follows rows s)
+  indexed_follow rows n s (Some index) (Some offsets) ps e =
+      let a = bind_ok (column_index_of index) (λ x. offset_index_of offsets >>= λ ls. pages_of rows n x ls) ps e in
+      let b = bind_ok (offset_index_of offsets) (λ ls. pages_of rows n a.0 ls) ps a.2 in
+      they rows n a.0 b.0 ps b.2
 
-  by_follow : (rows : ℕ) (b : Bool) (s : Option StatisticsData) (x o : Option (List ℕ)) (ps : List PageData) → cond b (indexed rows s x o) (Ok (one_page rows None)) ≡ Ok ps → follow 0 rows ps ≡ true
-  by_follow rows true s x o ps e = indexed_follow rows s x o ps e
-  by_follow rows false s x o ps e = subst (λ (qs : List PageData). follow 0 rows qs ≡ true) (one_ok (one_page rows None) ps e) (one_follows rows None)
+  by_follow : (rows : ℕ) (n : Nullability) (b : Bool) (s : Option StatisticsData) (x o : Option (List ℕ)) (ps : List PageData) → cond b (indexed rows n s x o) (Ok (one_page rows None)) ≡ Ok ps → follow 0 rows ps ≡ true
+  by_follow rows n true s x o ps e = indexed_follow rows n s x o ps e
+  by_follow rows n false s x o ps e = subst (λ (qs : List PageData). follow 0 rows qs ≡ true) (one_ok (one_page rows None) ps e) (one_follows rows None)
 
   chunk_follows : (rows : ℕ) (l : Leaf) (o : Option (List ℕ)) (ps : List PageData) → chunk_pages t rows l o ≡ Ok ps → follow 0 rows ps ≡ true
   unfolding chunk_pages leaf_pages
@@ -100,7 +101,7 @@ module _ (they : PagesFollow) (t : TailData) where
   chunk_follows rows l (Some bytes) ps e =
       let a = bind_ok (places_of bytes) (λ places. chunk_of bytes >>= λ chunk. pages_by t rows l places chunk) ps e in
       let b = bind_ok (chunk_of bytes) (λ chunk. pages_by t rows l a.0 chunk) ps a.2 in
-      by_follow rows (is_number l.physical b.0.physical) b.0.statistics (bytes_at t a.0.column_index a.0.column_index_length) (bytes_at t a.0.offset_index a.0.offset_index_length) ps b.2
+      by_follow rows l.nullability (is_number l.physical b.0.physical) (statistics_by l.nullability b.0.statistics) (bytes_at t a.0.column_index a.0.column_index_length) (bytes_at t a.0.offset_index a.0.offset_index_length) ps b.2
 
   columns_follow : (orders : List Bool) (g : RowGroupData) (ls : List Leaf) (cs : List PagedData) → all_of (leaf_column t orders g) ls ≡ Ok cs → all_follow g.rows cs ≡ true
   columns_follow orders g [] cs e = ap (all_follow g.rows) (all_none (leaf_column t orders g) cs e)

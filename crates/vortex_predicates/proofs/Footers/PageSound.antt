@@ -21,17 +21,22 @@ use Rattle.vortex_parquet.specs.Stretches.{AreSetsIn, AreStretches, AreTruePages
 use Rattle.vortex_parquet.specs.Truth.{AreTrue, Fit}
 use Rattle.vortex_parquet.specs.Truth as truth
 use Rattle.vortex_parquet.proofs.Sound.{one_ok}
-use Rattle.vortex_predicates.specs.RowGroups.Pruning.{zone_data}
+use Rattle.vortex_predicates.specs.RowGroups.Pruning.{IsGroupAt, zone_data}
 use Rattle.vortex_prune.specs.Part.{AreTrueSets, IsPartOf, PartData, sets_fit}
 use Rattle.vortex_zone_map.specs.Zone.{AreZonesOf, ZoneData, fits_zone}
 use Rattle.vortex_zone_map.specs.ZoneMaps.{IsMapOf, MapData, zone_map}
 use Rattle.vortex_prune.specs.declared.scan.verdict.Verdict.{Verdict}
+use Rattle.vortex_prune.specs.declared.scan.verdict.Verdict.TheVariants.{Skipped, Whole, Tested}
+use Rattle.vortex_prune.specs.Scanning.Selection.{is_skipped, is_whole}
+use Rattle.vortex_prune.proofs.Scanning.SkippedParts.{place_listed}
 use Rattle.vortex_prune.proofs.Honesty.ZoneLemmas.{chunk_alike}
 use Rattle.vortex_sql.specs.Lowering.{truth_on}
+use Rattle.vortex_sql.specs.Schemas.{SchemaData}
 use Rattle.vortex_sql.specs.Pruning.{Confirmed, Refuted}
 use Rattle.vortex_predicates.specs.Conditions.Conditions.{IsSoundFor}
 use Rattle.vortex_sql.specs.declared.syntax.tree.Condition.{Condition}
-use Rattle.vortex_predicates.specs.Footers.PagePruning.{AreTrueLeaves, AreTruePagesOf, PrunesPages}
+use Rattle.vortex_predicates.specs.Footers.PagePruning.{AreTrueLeaves, AreTruePagesOf, DecidesNoFewer, PrunesPages, by_group, by_groups}
+use Rattle.vortex_predicates.specs.Footers.Pruning.{PrunesCondition}
 use Rattle.vortex_predicates.specs.Footers.PagedGroups.{AreStretchesFrom, AreStretchesIn, PagedGroup, chunk_pages, leaf_column, ranges_from}
 use Rattle.vortex_predicates.specs.declared.parquet.page_ranges.PageRange.{PageRange}
 use Rattle.vortex_predicates.proofs.Footers.PageGroups.{all_none, all_split, column_is, group_is, groups_paged}
@@ -183,26 +188,26 @@ part_there scope from s k chunk scoped inside fits =
 
 -- ---- what is said of a row of it is said of one of the row group
 
-module _ (scope : List Named) (c : Condition) (from n row : ℕ) (k : List ColumnData) (after : from ≤ row) (before : row < from + n) where
+module _ (s : SchemaData) (c : Condition) (from n row : ℕ) (k : List ColumnData) (after : from ≤ row) (before : row < from + n) where
   row_is : row_of (row - from) (map (column_of_rows from n) k) ≡ row_of row k
   row_is = row_same from n (row - from) (omega (arith, after, before)) k ∙ (let e : from + (row - from) ≡ row = omega (arith, after) in ap (λ (r : ℕ). row_of r k) e)
 
-  refuted : Refuted scope c (map (column_of_rows from n) k) (row - from) → Refuted scope c k row
-  refuted h f = subst (λ (r : List Constant). truth_on scope r f c ≢ Some true) row_is (h f)
+  refuted : Refuted s c (map (column_of_rows from n) k) (row - from) → Refuted s c k row
+  refuted h f = subst (λ (r : List Constant). truth_on s r f c ≢ Some true) row_is (h f)
 
-  confirmed : Confirmed scope c (map (column_of_rows from n) k) (row - from) → Confirmed scope c k row
-  confirmed h f = subst (λ (r : List Constant). truth_on scope r f c ≡ Some true) row_is (h f)
+  confirmed : Confirmed s c (map (column_of_rows from n) k) (row - from) → Confirmed s c k row
+  confirmed h f = subst (λ (r : List Constant). truth_on s r f c ≡ Some true) row_is (h f)
 
 -- ---- pruning
 
-pub prunes_pages : TrueStretches → (scope : List Named) (c : Condition) (t : TailData) (ls : List Leaf) (count : ℕ) (file : FileData) (ranges : List PageRange) (gs : List GroupStats) (m : MapData) (vs : List Verdict)
-    → m ≡ zone_map scope (map zone_data gs) → IsMapOf (map zone_data gs) m
-    → ((zones : List ZoneData) → IsMapOf zones m → IsSoundFor m.scope c zones (skipped_places vs) (whole_places vs))
-    → AreStretchesIn t ls count file ranges (map group_view gs) → PrunesPages scope c t ls file ranges (skipped_places vs) (whole_places vs)
-prunes_pages true_stretches scope c t ls count file ranges gs m vs made is_map sound known i r g k at here may =
-    let same : m.scope ≡ scope = ap (λ (x : MapData). x.scope) made in
-    let zones : AreZonesOf scope (map zone_data gs) = subst (λ (ns : List Named). AreZonesOf ns (map zone_data gs)) same is_map.are_zones in
-    let judged : IsSoundFor scope c (map zone_data gs) (skipped_places vs) (whole_places vs) = subst (λ (ns : List Named). IsSoundFor ns c (map zone_data gs) (skipped_places vs) (whole_places vs)) same (sound (map zone_data gs) is_map) in
+pub prunes_pages : TrueStretches → (columns : SchemaData) (c : Condition) (t : TailData) (ls : List Leaf) (count : ℕ) (file : FileData) (ranges : List PageRange) (gs : List GroupStats) (m : MapData) (vs : List Verdict)
+    → m ≡ zone_map columns.scope (map zone_data gs) → IsMapOf (map zone_data gs) m
+    → ((zones : List ZoneData) → IsMapOf zones m → IsSoundFor columns c zones (skipped_places vs) (whole_places vs))
+    → AreStretchesIn t ls count file ranges (map group_view gs) → PrunesPages columns c t ls file ranges (skipped_places vs) (whole_places vs)
+prunes_pages true_stretches columns c t ls count file ranges gs m vs made is_map sound known i r g k at here may =
+    let same : m.scope ≡ columns.scope = ap (λ (x : MapData). x.scope) made in
+    let zones : AreZonesOf columns.scope (map zone_data gs) = subst (λ (ns : List Named). AreZonesOf ns (map zone_data gs)) same is_map.are_zones in
+    let judged = sound (map zone_data gs) is_map in
     let (place, p, s, group, inside, known_at, is) = range_at known.groups 0 ranges (map group_view gs) known.are_stretches i r at in
     let (q, paged, read) = groups_paged t ls count file known.groups here.groups known.are_groups here.are_groups r.group g here.here in
     let (cs, all, whole) = group_is t ls count file.orders g q read in
@@ -213,11 +218,85 @@ prunes_pages true_stretches scope c t ls count file ranges gs m vs made is_map s
     let fits_in : r.first + s.rows ≤ rows = omega (arith, stretch.ends, stretch.within, may.counted) in
     let zone : ZoneData = record { rows = s.rows; stats = s.stats } in
     let zone_is : slice_get (map zone_data gs) i ≡ Some zone = zone_at gs i s known_at in
-    let part = part_there scope r.first s k may.is_chunk may.scoped fits_in (zones i zone zone_is) in
+    let part = part_there columns.scope r.first s k may.is_chunk may.scoped fits_in (zones i zone zone_is) in
     let sliced : List ColumnData = map (column_of_rows r.first s.rows) k.columns in
     let true_sets = true_stretches cs k.columns rows r.first s.rows s.stats stretch.sets fits_in (all_long_of k may.is_chunk) (columns_true t file.orders g ls k.columns cs all may.are_true) (fit_of sliced s.stats part.is_part.1) in
     let told = judged i zone (part_of_rows r.first s k) zone_is part (same_sets sliced s.stats true_sets) in
     let many : row_count sliced ≡ s.rows = rows_there r.first s.rows k.columns fits_in in (
-      λ skip row after before. let b : row < r.first + s.rows = omega (arith, stretch.ends, before) in refuted scope c r.first s.rows row k.columns after b (told.0 skip (row - r.first) (omega (arith, many, after, b))),
-      λ each row after before. let b : row < r.first + s.rows = omega (arith, stretch.ends, before) in confirmed scope c r.first s.rows row k.columns after b (told.1 each (row - r.first) (omega (arith, many, after, b))),
+      λ skip row after before. let b : row < r.first + s.rows = omega (arith, stretch.ends, before) in refuted columns c r.first s.rows row k.columns after b (told.0 skip (row - r.first) (omega (arith, many, after, b))),
+      λ each row after before. let b : row < r.first + s.rows = omega (arith, stretch.ends, before) in confirmed columns c r.first s.rows row k.columns after b (told.1 each (row - r.first) (omega (arith, many, after, b))),
+    )
+
+-- ---- with the verdicts on row groups
+
+range_inside : (t : TailData) (ls : List Leaf) (count : ℕ) (file : FileData) (ranges : List PageRange) (known : List GroupData) → AreStretchesIn t ls count file ranges known
+    → (i : ℕ) (r : PageRange) (g : RowGroupData) → slice_get ranges i ≡ Some r → IsGroupAt file r.group g → r.end ≤ g.rows
+range_inside t ls count file ranges known found i r g at here =
+    let (place, p, s, group, inside, known_at, is) = range_at found.groups 0 ranges known found.are_stretches i r at in
+    let (q, paged, read) = groups_paged t ls count file found.groups here.groups found.are_groups here.are_groups r.group g here.here in
+    let (cs, all, whole) = group_is t ls count file.orders g q read in
+    let where_is : r.group ≡ place = omega (arith, group) in
+    let alike : p ≡ q = same_Some p q (sym inside ∙ ap (slice_get found.groups) (sym where_is) ∙ paged) in
+    let rows : p.rows ≡ g.rows = ap (λ (x : PagedGroup). x.rows) (alike ∙ whole) in
+    omega (arith, is.within, rows)
+
+-- an element beside one of another list
+beside : {A B : Type 0} (xs : List A) (ys : List B) (i : ℕ) (x : A) → length ys ≡ length xs → slice_get xs i ≡ Some x → (y : B) × (slice_get ys i ≡ Some y)
+beside [] ys i x e h = absurd (no_element i x h)
+beside (z ∷ xs) [] i x e h = absurd (omega (arith, e))
+beside (z ∷ xs) (y ∷ ys) zero x e h = (y, refl)
+beside (z ∷ xs) (y ∷ ys) (suc i) x e h = beside xs ys i x (omega (arith, e)) h
+
+by_at : (groups : List Verdict) (rs : List PageRange) (vs : List Verdict) (i : ℕ) (r : PageRange) (v : Verdict) → slice_get rs i ≡ Some r → slice_get vs i ≡ Some v
+    → slice_get (by_groups groups rs vs) i ≡ Some (by_group (slice_get groups r.group) v)
+by_at groups [] vs i r v at there = absurd (no_element i r at)
+by_at groups (q ∷ rs) [] i r v at there = absurd (no_element i v there)
+by_at groups (q ∷ rs) (w ∷ vs) zero r v at there =
+    ap (λ (x : PageRange). Some (by_group (slice_get groups x.group) w)) (same_Some q r at) ∙ ap (λ (y : Verdict). Some (by_group (slice_get groups r.group) y)) (same_Some w v there)
+by_at groups (q ∷ rs) (w ∷ vs) (suc i) r v at there = by_at groups rs vs i r v at there
+
+skipped_by : (o : Option Verdict) (v : Verdict) → is_skipped (by_group o v) ≡ true → (o ≡ Some Skipped) ⊎ (is_skipped v ≡ true)
+skipped_by None v h = inr h
+skipped_by (Some Skipped) v h = inl refl
+skipped_by (Some Whole) v h = absurd cc
+skipped_by (Some Tested) v h = inr h
+
+whole_by : (o : Option Verdict) (v : Verdict) → is_whole (by_group o v) ≡ true → (o ≡ Some Whole) ⊎ (is_whole v ≡ true)
+whole_by None v h = inr h
+whole_by (Some Skipped) v h = absurd cc
+whole_by (Some Whole) v h = inl refl
+whole_by (Some Tested) v h = inr h
+
+-- there is a verdict for each stretch
+pub by_groups_long : (groups : List Verdict) (rs : List PageRange) (vs : List Verdict) → length vs ≡ length rs → length (by_groups groups rs vs) ≡ length rs
+by_groups_long groups [] vs e = refl
+by_groups_long groups (r ∷ rs) [] e = absurd (omega (arith, e))
+by_groups_long groups (r ∷ rs) (v ∷ vs) e = ap suc (by_groups_long groups rs vs (omega (arith, e)))
+
+pub no_fewer : (groups : List Verdict) (ranges : List PageRange) (own : List Verdict) → length own ≡ length ranges → DecidesNoFewer groups ranges (by_groups groups ranges own)
+no_fewer groups ranges own long i r at =
+    let (v, there) = beside ranges own i r long at in
+    let joined = by_at groups ranges own i r v at there in (
+      λ is. joined ∙ ap (λ (o : Option Verdict). Some (by_group o v)) is,
+      λ is. joined ∙ ap (λ (o : Option Verdict). Some (by_group o v)) is,
+    )
+
+pub prunes_by_groups : (columns : SchemaData) (c : Condition) (t : TailData) (ls : List Leaf) (count : ℕ) (file : FileData) (ranges : List PageRange) (known : List GroupData) (own groups : List Verdict)
+    → AreStretchesIn t ls count file ranges known → length own ≡ length ranges
+    → PrunesPages columns c t ls file ranges (skipped_places own) (whole_places own) → PrunesCondition columns c ls file (skipped_places groups) (whole_places groups)
+    → PrunesPages columns c t ls file ranges (skipped_places (by_groups groups ranges own)) (whole_places (by_groups groups ranges own))
+prunes_by_groups columns c t ls count file ranges known own groups found long by_pages by_footer i r g k at here may =
+    let (v, there) = beside ranges own i r long at in
+    let joined = by_at groups ranges own i r v at there in
+    let inside : r.end ≤ row_count k.columns = omega (arith, range_inside t ls count file ranges known found i r g at here, may.counted) in
+    let pages = by_pages i r g k at here may in
+    let group = by_footer r.group g k here (record { is_chunk = may.is_chunk; scoped = may.scoped; counted = may.counted; are_true = may.by_footer }) in (
+      λ skip row after before. elim (skipped_by (slice_get groups r.group) v ((place_listed is_skipped (by_groups groups ranges own) i (by_group (slice_get groups r.group) v) joined).0 skip)) [
+        | inl is ↦ group.0 ((place_listed is_skipped groups r.group Skipped is).1 refl) row (omega (arith, inside, before))
+        | inr is ↦ pages.0 ((place_listed is_skipped own i v there).1 is) row after before
+      ],
+      λ each row after before. elim (whole_by (slice_get groups r.group) v ((place_listed is_whole (by_groups groups ranges own) i (by_group (slice_get groups r.group) v) joined).0 each)) [
+        | inl is ↦ group.1 ((place_listed is_whole groups r.group Whole is).1 refl) row (omega (arith, inside, before))
+        | inr is ↦ pages.1 ((place_listed is_whole own i v there).1 is) row after before
+      ],
     )

@@ -1,6 +1,7 @@
 -- Stretches of row groups, as loops find them.
-use Rattle.std.proofs.Common.{◌≡◌, ℕ, zero, suc, ◌+◌, ◌≤◌, ◌<◌, true, true≢false, List, [], ◌∷◌, ◌++◌, length, refl, sym, ap, subst, subst₂, ◌∙◌, map, drop, drop-cons, get_or, append_assoc, add-one, arith}
+use Rattle.std.proofs.Common.{◌≡◌, ℕ, zero, suc, ◌+◌, ◌≤◌, ◌<◌, true, true≢false, List, [], ◌∷◌, ◌++◌, Option, length, refl, sym, ap, ap₂, subst, subst₂, ◌∙◌, map, drop, drop-cons, get_or, append_assoc, add-one, arith}
 use Rattle.std.proofs.lemmas.List.{append-nil, drop_all, map_push}
+use Rattle.std.specs.Prelude.{slice_get}
 use Rattle.vortex_base.specs.Data.Exact.{both_true}
 use Rattle.vortex_parquet.specs.declared.fault.ReadError.{ReadError}
 use Rattle.vortex_parquet.specs.declared.fault.ReadError.TheVariants as errors
@@ -10,6 +11,8 @@ use Rattle.vortex_parquet.specs.Stats.{GroupData, group_view}
 use Rattle.vortex_parquet.specs.Stretches.{AreStretches, AreStretchesOf, IsRefusal, PagedData, all_follow, paged_view as column_view}
 use Rattle.vortex_parquet.proofs.Views.{drop_none, drop_view}
 use Rattle.vortex_predicates.specs.Footers.PagedGroups.{AreStretchesFrom, PagedGroup, all_groups_follow, leaf_view, paged_view, ranges_from, rows_in}
+use Rattle.vortex_predicates.specs.Footers.PagePruning.{by_group, by_groups}
+use Rattle.vortex_prune.specs.declared.scan.verdict.Verdict.{Verdict}
 use Rattle.vortex_predicates.specs.declared.parquet.page_ranges.PageRange.{PageRange}
 use Rattle.vortex_predicates.specs.declared.parquet.paged.GroupPages.{GroupPages}
 use Rattle.vortex_predicates.specs.declared.parquet.paged.LeafPages.{LeafPages}
@@ -96,3 +99,22 @@ cut_ends gs ranges known i le so_far =
 pub memory_alone : (e : ReadError) (cs : List PagedData) (rows : ℕ) → all_follow rows cs ≡ true → IsRefusal cs rows e → e ≡ errors.Memory
 memory_alone errors.Memory cs rows h r = refl
 memory_alone (errors.Fault f) cs rows h r = let never : true ≡ all_follow rows cs = sym h in absurd (true≢false (never ∙ r.1))
+
+-- ---- verdicts by those on row groups
+
+pub verdicts_go : (groups : List Verdict) (rs : List PageRange) (vs : List Verdict) (front total : List Verdict) (i : ℕ) (r : PageRange) (v x : Verdict) (o : Option Verdict) → i < length rs → length vs ≡ length rs
+    → o ≡ slice_get groups (get_or rs i r).group → x ≡ by_group o (get_or vs i v)
+    → front ++ by_groups groups (drop i rs) (drop i vs) ≡ total → (front ++ x ∷ []) ++ by_groups groups (drop (i + 1) rs) (drop (i + 1) vs) ≡ total
+verdicts_go groups rs vs front total i r v x o lt same there told so_far =
+    let h : x ≡ by_group (slice_get groups (get_or rs i r).group) (get_or vs i v) = told ∙ ap (λ (p : Option Verdict). by_group p (get_or vs i v)) there in
+    let others : List Verdict = by_groups groups (drop (i + 1) rs) (drop (i + 1) vs) in
+    let less : i < length vs = subst (λ (n : ℕ). i < n) (sym same) lt in
+    let left : drop i rs ≡ get_or rs i r ∷ drop (i + 1) rs = drop-cons rs i r lt ∙ ap (λ (n : ℕ). get_or rs i r ∷ drop n rs) (sym (add-one i)) in
+    let right : drop i vs ≡ get_or vs i v ∷ drop (i + 1) vs = drop-cons vs i v less ∙ ap (λ (n : ℕ). get_or vs i v ∷ drop n vs) (sym (add-one i)) in
+    let one : by_groups groups (drop i rs) (drop i vs) ≡ x ∷ others = ap₂ (by_groups groups) left right ∙ ap (λ (y : Verdict). y ∷ others) (sym h) in
+    append_assoc front (x ∷ []) others ∙ ap (λ (ys : List Verdict). front ++ ys) (sym one) ∙ so_far
+
+pub verdicts_done : (groups : List Verdict) (rs : List PageRange) (vs : List Verdict) (front total : List Verdict) (i : ℕ) → length rs ≤ i → front ++ by_groups groups (drop i rs) (drop i vs) ≡ total → front ≡ total
+verdicts_done groups rs vs front total i le so_far =
+    let none : by_groups groups (drop i rs) (drop i vs) ≡ [] = ap (λ (xs : List PageRange). by_groups groups xs (drop i vs)) (drop_all i rs le) in
+    sym (append-nil front) ∙ ap (λ (ys : List Verdict). front ++ ys) (sym none) ∙ so_far

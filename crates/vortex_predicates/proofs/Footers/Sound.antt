@@ -15,18 +15,18 @@ use Rattle.vortex_zone_map.specs.Zone.{AreZonesOf, ZoneData}
 use Rattle.vortex_zone_map.specs.ZoneMaps.{IsMapOf, MapData, zone_map}
 use Rattle.vortex_prune.specs.declared.scan.verdict.Verdict.{Verdict}
 use Rattle.vortex_predicates.specs.Conditions.Conditions.{IsSoundFor}
+use Rattle.vortex_sql.specs.Schemas.{SchemaData}
 use Rattle.vortex_sql.specs.declared.syntax.tree.Condition.{Condition}
 use Rattle.vortex_predicates.specs.Footers.Pruning.{PrunesCondition}
 
-pub prunes_condition : GroupsAreParts → (scope : List Named) (c : Condition) (ls : List Leaf) (gs : List GroupStats) (m : MapData) (vs : List Verdict) → m ≡ zone_map scope (map zone_data gs) → IsMapOf (map zone_data gs) m
-    → ((zones : List ZoneData) → IsMapOf zones m → IsSoundFor m.scope c zones (skipped_places vs) (whole_places vs))
-    → (file : FileData) (count : ℕ) → groups_of ls count file ≡ Ok (map group_view gs) → PrunesCondition scope c ls file (skipped_places vs) (whole_places vs)
-prunes_condition parts scope c ls gs m vs made is_map sound file count e i g k at may =
-    let same : m.scope ≡ scope = ap (λ (x : MapData). x.scope) made in
-    let zones : AreZonesOf scope (map zone_data gs) = subst (λ (ns : List Named). AreZonesOf ns (map zone_data gs)) same is_map.are_zones in
-    let x = parts scope ls gs zones file count e i g k at may in
-    let here : IsSoundFor scope c (map zone_data gs) (skipped_places vs) (whole_places vs) = subst (λ (ns : List Named). IsSoundFor ns c (map zone_data gs) (skipped_places vs) (whole_places vs)) same (sound (map zone_data gs) is_map) in
-    here i x.0 (record { chunk = k; stats = x.0.stats }) x.1 x.2 x.3
+pub prunes_condition : GroupsAreParts → (s : SchemaData) (c : Condition) (ls : List Leaf) (gs : List GroupStats) (m : MapData) (vs : List Verdict) → m ≡ zone_map s.scope (map zone_data gs) → IsMapOf (map zone_data gs) m
+    → ((zones : List ZoneData) → IsMapOf zones m → IsSoundFor s c zones (skipped_places vs) (whole_places vs))
+    → (file : FileData) (count : ℕ) → groups_of ls count file ≡ Ok (map group_view gs) → PrunesCondition s c ls file (skipped_places vs) (whole_places vs)
+prunes_condition parts s c ls gs m vs made is_map sound file count e i g k at may =
+    let same : m.scope ≡ s.scope = ap (λ (x : MapData). x.scope) made in
+    let zones : AreZonesOf s.scope (map zone_data gs) = subst (λ (ns : List Named). AreZonesOf ns (map zone_data gs)) same is_map.are_zones in
+    let x = parts s.scope ls gs zones file count e i g k at may in
+    sound (map zone_data gs) is_map i x.0 (record { chunk = k; stats = x.0.stats }) x.1 x.2 x.3
 
 -- ---- each row group of the file is read
 

@@ -1,15 +1,19 @@
 -- Which columns of a file a condition is read over, and which names refuse it.
-use Rattle.std.specs.Prelude.{◌≡◌, ◌⊎◌, ◌++◌, ℕ, Bool, true, false, not, List, [], ◌∷◌, Option, Some, None, Contains, is_none, if◌then◌else◌}
+use Rattle.std.specs.Prelude.{◌≡◌, ◌⊎◌, ◌++◌, ℕ, Bool, true, false, List, [], ◌∷◌, Option, Some, None, Contains, is_none, map, if◌then◌else◌}
 use Rattle.std.specs.List.{list_all, list_any}
 use Rattle.vortex_base.specs.Data.Scopes.{Named, has_duplicate, is_state_column}
 use Rattle.vortex_base.specs.declared.dtype.DType.TheVariants as dtype
 use Rattle.vortex_base.specs.declared.types.Nullability.TheVariants.{Nullable}
+use Rattle.vortex_logical.specs.declared.logical_type.LogicalType.{LogicalType}
+use Rattle.vortex_sql.specs.Schemas.{SchemaData}
 use Rattle.vortex_parquet.specs.Columns.{AreNamed, ColumnView, leaf_dtype, lookup}
 use Rattle.vortex_parquet.specs.declared.columns.Content.{Content}
 use Rattle.vortex_parquet.specs.declared.columns.Content.TheVariants as content
 use Rattle.vortex_parquet.specs.declared.columns.Form.TheVariants as form
 use Rattle.vortex_parquet.specs.declared.columns.Leaf.{Leaf}
 use Rattle.vortex_parquet.specs.declared.columns.LeftOut.{LeftOut}
+use Rattle.vortex_parquet.specs.declared.meaning.LeafMeaning.{LeafMeaning}
+use Rattle.vortex_parquet.specs.declared.meaning.LeafMeaning.TheVariants as meaning
 use Rattle.vortex_parquet.specs.declared.columns.LeftOut.TheVariants as left_out
 use Rattle.vortex_predicates.specs.Footers.Mentions.{MentionData}
 
@@ -43,26 +47,40 @@ pub record IsFirstLeftOut (cs : List ColumnView) (ms : List MentionData) (start 
 
 -- ---- the columns that are read
 
--- its numbers are what they stand for
-abbrev pub is_plain : Leaf → Bool
-is_plain l = not l.is_raw
+abbrev pub is_known : LeafMeaning → Bool
+is_known meaning.Plain = true
+is_known (meaning.Logical t) = true
+is_known meaning.Opaque = false
+
+-- it is known what its cells stand for
+abbrev pub is_read : Leaf → Bool
+is_read l = is_known l.meaning
 
 -- the leaf of a column whose tests are read
-abbrev pub plain_leaf : Leaf → Option Leaf
-plain_leaf l = if l.is_raw then None else Some l
+abbrev pub read_leaf : Leaf → Option Leaf
+read_leaf l = if is_read l then Some l else None
+
+abbrev pub logical_in : LeafMeaning → Option LogicalType
+logical_in meaning.Plain = None
+logical_in (meaning.Logical t) = Some t
+logical_in meaning.Opaque = None
+
+-- the logical type of a leaf column, if its cells aren't the values themselves
+abbrev pub logical_of : Leaf → Option LogicalType
+logical_of l = logical_in l.meaning
 
 abbrev pub leaf_in : Option Content → Option Leaf
-leaf_in (Some (content.Leaf l)) = plain_leaf l
+leaf_in (Some (content.Leaf l)) = read_leaf l
 leaf_in (Some (content.LeftOut why)) = None
 leaf_in None = None
 
 abbrev pub IsReadAs : List ColumnView → List ℕ → Leaf → Type 0
-IsReadAs cs name l = (lookup name cs ≡ Some (content.Leaf l)) × (is_plain l ≡ true)
+IsReadAs cs name l = (lookup name cs ≡ Some (content.Leaf l)) × (is_read l ≡ true)
 
 -- these columns of the file, beside their leaves, are those whose tests are read and that are named; no name refuses the condition
 pub record AreChosen (cs : List ColumnView) (ms : List MentionData) (scope : List Named) (ls : List Leaf) : Type 0 where
   pub named : AreNamed cs scope ls
-  pub are_plain : list_all is_plain ls ≡ true
+  pub are_read : list_all is_read ls ≡ true
   pub each : (m : MentionData) (l : Leaf) → Contains ms m → IsReadAs cs m.name l → Contains scope (m.name, leaf_dtype l)
   pub only : (c : Named) → Contains scope c → (m : MentionData) × Contains ms m × (m.name ≡ c.0)
   pub taken : list_all (is_taken cs) ms ≡ true
@@ -75,8 +93,12 @@ no_column = ([], dtype.Bool Nullable)
 
 -- the leaf beside it stands behind those of the file
 abbrev pub no_leaf : ℕ → Leaf
-no_leaf count = record { place = count; physical = 0; form = form.Bool; is_raw = false; nullability = Nullable }
+no_leaf count = record { place = count; physical = 0; form = form.Bool; meaning = meaning.Plain; nullability = Nullable }
 
 -- the columns of a file with so many leaf columns that a condition is read over
 abbrev pub IsScopeFor : List ColumnView → ℕ → List MentionData → List Named → List Leaf → Type 0
 IsScopeFor cs count ms scope ls = AreChosen cs ms scope ls ⊎ (AreChosen cs ms [] [] × (scope ≡ no_column ∷ []) × (ls ≡ no_leaf count ∷ []))
+
+-- so with the logical types of their leaves
+abbrev pub IsSchemaFor : List ColumnView → ℕ → List MentionData → SchemaData → List Leaf → Type 0
+IsSchemaFor cs count ms s ls = IsScopeFor cs count ms s.scope ls × (s.logical ≡ map logical_of ls)

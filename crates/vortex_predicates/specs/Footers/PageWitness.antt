@@ -6,6 +6,7 @@ use Rattle.vortex_base.specs.Data.Columns.{ChunkData}
 use Rattle.vortex_base.specs.Data.Scopes.{Named}
 use Rattle.vortex_parquet.specs.declared.columns.Form.TheVariants as form
 use Rattle.vortex_parquet.specs.declared.columns.Leaf.{Leaf}
+use Rattle.vortex_parquet.specs.declared.meaning.LeafMeaning.TheVariants.{Plain}
 use Rattle.vortex_parquet.specs.declared.fault.Fault.TheVariants as fault
 use Rattle.vortex_parquet.specs.GroupPages.{TailData}
 use Rattle.vortex_parquet.specs.Pages.{bounded}
@@ -33,7 +34,7 @@ abbrev pub group : RowGroupData
 group = record { rows = 5; size = None; columns = drop 2 group_bytes ∷ [] }
 
 abbrev pub leaf : Leaf
-leaf = record { place = 0; physical = 6; form = form.Binary; is_raw = false; nullability = Nullable }
+leaf = record { place = 0; physical = 6; form = form.Binary; meaning = Plain; nullability = Nullable }
 
 abbrev pub scope : List Named
 scope = (codes "s", dtype.Binary Nullable) ∷ []
@@ -61,7 +62,7 @@ of_rows n = record { rows = n; size = None; stats = [] }
 
 -- a leaf behind the column chunks of a row group
 abbrev pub missing : Leaf
-missing = record { place = 1; physical = 6; form = form.Binary; is_raw = false; nullability = Nullable }
+missing = record { place = 1; physical = 6; form = form.Binary; meaning = Plain; nullability = Nullable }
 
 pub record RangeExamples : Type 0 where
   pub no_stretches : ranges_from 2 7 [] ≡ []

@@ -1,5 +1,5 @@
 //! The columns of a file that a condition is read over.
-ghost use Rattle.std.specs.Prelude.{◌≡◌, ◌++◌, ◌∷◌, [], List, IfErr, IfOk, None, OnOk};
+ghost use Rattle.std.specs.Prelude.{◌≡◌, ◌++◌, ◌∷◌, [], List, IfErr, IfOk, None, OnOk, map};
 ghost use Rattle.vortex_base.specs.Data.Scopes.{IsScope, named_columns, place_of};
 ghost use Rattle.vortex_parquet.specs.Columns.{ColumnView, column_views, leaf_dtype};
 ghost use Rattle.vortex_predicates.specs.Footers.Choosing as spec;
@@ -12,7 +12,10 @@ use std::alloc::{AllocError, Global};
 use vortex_base::dtype::DType;
 use vortex_base::scope::Scope;
 use vortex_base::types::Nullability;
+use vortex_logical::logical_type::LogicalType;
 use vortex_parquet::columns::{Column, Content, Form, Leaf, LeftOut, lookup};
+use vortex_parquet::meaning::LeafMeaning;
+use vortex_sql::schema::Schema;
 use vortex_sql::syntax::tree::Condition;
 use vortex_syntax::columns::Columns;
 
@@ -36,16 +39,47 @@ fn reason(found: Option<Content>) -> Option<LeftOut>
     }
 }
 
+// Tells whether it is known what cells stand for.
+fn is_known(meaning: LeafMeaning) -> bool
+    ensures { result ≡ spec.is_known meaning }
+{
+    match meaning {
+        LeafMeaning::Plain | LeafMeaning::Logical(_) => true,
+        LeafMeaning::Opaque => false,
+    }
+}
+
+// Returns the logical type of a leaf column, if its cells aren't the values themselves.
+fn logical_of(leaf: &Leaf) -> Option<LogicalType>
+    ensures { result ≡ spec.logical_of leaf.now }
+{
+    match leaf.meaning {
+        LeafMeaning::Logical(logical) => Some(logical),
+        LeafMeaning::Plain | LeafMeaning::Opaque => None,
+    }
+}
+
+// Returns the logical types of leaf columns, in their order.
+fn logical_types(alloc: Global, leaves: &[Leaf]) -> Result<Vec<Option<LogicalType>>, AllocError>
+    ensures { IfOk result (λ types. types.items ≡ map spec.logical_of leaves.now) }
+{
+    let mut types = Vec::with_capacity(alloc, leaves.len())?;
+    for leaf in leaves {
+        types.push(logical_of(leaf))?;
+    }
+    Ok(types)
+}
+
 // Returns the leaf whose tests are read.
 fn leaf_in(found: Option<Content>) -> Option<Leaf>
     ensures { result ≡ spec.leaf_in found }
 {
     match found {
         Some(Content::Leaf(leaf)) => {
-            if leaf.is_raw {
-                return None;
+            if is_known(leaf.meaning) {
+                return Some(leaf);
             }
-            Some(leaf)
+            None
         }
         _ => None,
     }
@@ -141,15 +175,15 @@ fn no_leaf(count: usize) -> Leaf
         place: count,
         physical: 0,
         form: Form::Bool,
-        is_raw: false,
+        meaning: LeafMeaning::Plain,
         nullability: Nullability::Nullable,
     }
 }
 
-/// Columns as a scope, and the leaf of a file beside each.
+/// Columns as a schema, and the leaf of a file beside each.
 #[derive(Drop)]
 pub(crate) struct Scoped {
-    pub(crate) scope: Scope,
+    pub(crate) schema: Schema,
     pub(crate) leaves: Vec<Leaf>,
 }
 
@@ -173,22 +207,26 @@ fn filled(alloc: Global, chosen: Chosen, count: usize) -> Result<Chosen, AllocEr
 }
 
 /// Returns the columns of a file with so many leaf columns that a condition is read over, as a
-/// scope whose clones share its names.
+/// schema whose scope's clones share its names.
 ///
 /// `LeftOut` with the first name that refuses the condition, and else `Memory` alone.
-pub(crate) fn scope_of(
+pub(crate) fn schema_for(
     alloc: Global,
     columns: &[Column<'_>],
     count: usize,
     condition: &Condition,
 ) -> Result<Scoped, FooterError>
-    ensures chosen { IfOk result (λ made. spec.IsScopeFor (column_views columns.now) count
-        (mentions condition.now) made.scope made.leaves.items) }
+    ensures chosen { IfOk result (λ made. spec.IsSchemaFor (column_views columns.now) count
+        (mentions condition.now) made.schema made.leaves.items) }
     ensures refused { IfErr result
         (IsLeftOutOf (column_views columns.now) (mentions condition.now)) }
 {
     let chosen = chosen_of(alloc, columns, condition)?;
     let Chosen { columns, leaves } = filled(alloc, chosen, count)?;
     let scope = Scope::new_unchecked(columns.into_vec()).try_shared(alloc)?;
-    Ok(Scoped { scope, leaves })
+    let logical = logical_types(alloc, &leaves)?;
+    Ok(Scoped {
+        schema: Schema::new(scope, logical),
+        leaves,
+    })
 }

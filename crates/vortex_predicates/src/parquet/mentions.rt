@@ -36,8 +36,7 @@ fn add_operand<'a>(
         }
         Operand::Null
         | Operand::Truth(_)
-        | Operand::Integer(_)
-        | Operand::Fraction(_)
+        | Operand::Exact(_)
         | Operand::Text(_)
         | Operand::Binary(_)
         | Operand::Other => Ok(()),

@@ -1,10 +1,11 @@
 //! Pruning of row groups by a predicate over their columns.
-ghost use Rattle.std.specs.Prelude.{◌≡◌, ℕ, IfOk, IsTrue, Ok, map};
+ghost use Rattle.std.specs.Prelude.{◌≡◌, ℕ, IfErr, IfOk, IsTrue, Ok, map};
 ghost use Rattle.vortex_expr.specs.Meanings.Fitting.{fits_scope};
 ghost use Rattle.vortex_expr.specs.Trees.Tree.{is_plain};
 ghost use Rattle.vortex_parquet.specs.Records.{FileData};
 ghost use Rattle.vortex_parquet.specs.Stats.{group_view, groups_of};
-ghost use Rattle.vortex_predicates.specs.RowGroups.Pruning.{PrunesSoundly, zone_data};
+ghost use Rattle.vortex_predicates.specs.RowGroups.Pruning.{IsPruningRefusal, PrunesSoundly};
+ghost use Rattle.vortex_predicates.specs.RowGroups.Pruning.{zone_data};
 ghost use Rattle.vortex_prune.specs.Scanning.ZoneScans.{skipped_zones, whole_zones};
 ghost use Rattle.vortex_rewrite.specs.Rewriting.Falsifiers.{falsifier as falsifier_of};
 ghost use Rattle.vortex_rewrite.specs.Rewriting.Falsifiers.{satisfier as satisfier_of};
@@ -22,6 +23,9 @@ use vortex_stats::error::StatsError;
 
 /// Returns which row groups hold no row that satisfies a predicate, and of which each row does. The
 /// groups have the statistics of these leaf columns, which are the columns of the scope.
+///
+/// `NotPredicate` if its type isn't Bool. `Mismatch` if a set fits no column of the scope, as one of
+/// other leaf columns. A rule of the user may fail, and memory may be refused.
 pub fn prune_groups(
     alloc: Global,
     scope: Scope,
@@ -49,6 +53,10 @@ pub fn prune_groups(
         let s = satisfier_of own predicate.now in
         IfOk result (λ pruned.
         pruned.whole.items ≡ whole_zones f s scope (map zone_data groups.now)) }
+    // It is refused if it is no predicate, if a set fits no column of the scope, or for a rule of
+    // the user; and else for memory alone.
+    ensures refused { let own = ⟦<Rules as OwnRules>⟧.own rules.now in
+        IfErr result (IsPruningRefusal own predicate.now scope (map zone_data groups.now)) }
 {
     groups_are_parts();
     let map = map_of(alloc, scope, groups)?;

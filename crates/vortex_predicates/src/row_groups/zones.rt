@@ -1,6 +1,9 @@
 //! Row groups as zones.
-ghost use Rattle.std.specs.Prelude.{◌≡◌, IfOk, map};
+ghost use Rattle.std.specs.Prelude.{◌≡◌, ◌⊎◌, IfErr, IfOk, false, map};
 ghost use Rattle.vortex_predicates.specs.RowGroups.Pruning.{zone_data};
+ghost use Rattle.vortex_rewrite.specs.Answers.{IsMemory};
+ghost use Rattle.vortex_stats.specs.declared.error.StatsError.TheVariants.{Mismatch};
+ghost use Rattle.vortex_zone_map.specs.Zone.{zones_fit};
 ghost use Rattle.vortex_zone_map.specs.ZoneMaps.{IsMapOf, zone_map};
 
 use std::alloc::{AllocError, Global};
@@ -31,6 +34,9 @@ fn zones_in<'a>(alloc: Global, groups: &'a [GroupStats]) -> Result<Vec<Zone<'a>>
 pub fn map_of(alloc: Global, scope: Scope, groups: &[GroupStats]) -> Result<ZoneMap, StatsError>
     ensures made { IfOk result (λ made. made ≡ zone_map scope (map zone_data groups.now)) }
     ensures is_map { IfOk result (IsMapOf (map zone_data groups.now)) }
+    // `Mismatch` is told only where a set fits no column, and else memory alone is refused.
+    ensures refused { IfErr result (λ e. IsMemory e
+        ⊎ ((zones_fit scope (map zone_data groups.now) ≡ false) × (e ≡ Mismatch))) }
 {
     let zones = zones_in(alloc, groups)?;
     match ZoneMap::try_new(alloc, scope, &zones) {

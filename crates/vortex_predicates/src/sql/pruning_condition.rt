@@ -1,16 +1,20 @@
 //! A condition in SQL with its proofs over statistics, made once and good for any map of its scope.
 ghost use Rattle.std.specs.Prelude.{◌≡◌, ◌∷◌, [], IfErr, IfOk, List, Some, length, false, map};
 ghost use Rattle.vortex_rewrite.specs.Answers.{IsMemory};
+ghost use Rattle.vortex_rewrite.specs.Causes.{IsRefusal, either_causes};
 ghost use Rattle.vortex_rewrite.specs.Rewriting.Proof.{is_open};
 ghost use Rattle.vortex_zone_map.specs.Zone.{ZoneData};
-ghost use Rattle.vortex_prune.specs.Scanning.ZoneScans.{AreRowVerdicts, zone_verdicts};
+ghost use Rattle.vortex_prune.specs.Scanning.ZoneScans.{AreRowVerdicts, is_left_open, open_causes, zone_verdicts};
 ghost use Rattle.vortex_zone_map.specs.ZoneMaps.{IsMapOf};
 ghost use Rattle.vortex_predicates.specs.Pruning.{IsMadeBy, skipped_places, whole_places};
 ghost use Rattle.vortex_sql.specs.Lowering.{Says, opaques, span_of};
 ghost use Rattle.vortex_sql.specs.Refusals.{misfits};
-ghost use Rattle.vortex_predicates.specs.Conditions.Conditions.{Confirms, IsSoundFor, Refutes, max_levels, pruning_of};
+ghost use Rattle.vortex_predicates.specs.Conditions.Conditions.{Confirms, IsSoundFor, Refutes};
+ghost use Rattle.vortex_predicates.specs.Conditions.Conditions.{max_levels, pruning_of, schema_of};
 ghost use Rattle.vortex_predicates.specs.Conditions.Refusals.{IsConditionRefusal, IsOfTextOrMemory};
+ghost use Rattle.vortex_predicates.specs.Conditions.Refusals.{IsProvingRefusal};
 ghost use Rattle.vortex_sql.specs.Parsing.Joining.{Joins, ands};
+ghost use Rattle.vortex_sql.specs.Parsing.Naming.{AreNamed};
 ghost use Rattle.vortex_sql.specs.Parsing.Places.{Ascends, leaves};
 
 use crate::PruningPredicate;
@@ -22,8 +26,10 @@ use vortex_base::scope::Scope;
 use vortex_prune::scan::prune::prune_by;
 use vortex_prune::scan::verdict::Verdict;
 use vortex_rewrite::rewrite::rules::{OwnRules, Rules};
-use vortex_sql::condition::{Predicate, condition_by};
-use vortex_sql::syntax::parse::Names;
+use vortex_sql::condition::{Predicate, over_schema};
+use vortex_sql::error::SqlError;
+use vortex_sql::schema::Schema;
+use vortex_sql::syntax::parse::{Names, parse};
 use vortex_sql::syntax::tree::Condition;
 use vortex_stats::error::StatsError;
 use vortex_zone_map::zone_map::ZoneMap;
@@ -37,7 +43,7 @@ pub const MAX_LEVELS: u32 = 128;
 /// The proofs hold whatever the unread parts mean, so a map needs no columns for those.
 #[derive(Drop)]
 pub struct PruningCondition {
-    scope: Scope,
+    schema: Schema,
     sql: Predicate,
     proofs: PruningPredicate,
 }
@@ -53,7 +59,8 @@ impl Model for PruningCondition {
     ghost coded = { condition_code };
 
     ghost view = { λ x. record {
-      scope = x.scope;
+      scope = x.schema.scope;
+      logical = x.schema.logical;
       condition = x.sql.condition;
       predicate = x.proofs.predicate;
       falsifier = x.proofs.falsifier;
@@ -62,76 +69,122 @@ impl Model for PruningCondition {
 
     ghost invariant = { λ x.
         let seen : ProvedCondition = record {
-          scope = x.scope;
+          scope = x.schema.scope;
+          logical = x.schema.logical;
           condition = x.sql.condition;
           predicate = x.proofs.predicate;
           falsifier = x.proofs.falsifier;
           satisfier = x.proofs.satisfier;
         } in
         AreProofsOf seen
-        × (x.sql.opaque.items ≡ map span_of (opaques x.scope x.sql.condition)) };
+        × (x.sql.opaque.items ≡ map span_of (opaques x.schema x.sql.condition)) };
 }
 
 impl PruningCondition {
-    /// Reads the text of a condition over the columns of a scope, and makes its proofs by the
+    /// Makes the proofs of a condition over the columns of a schema by the built-in rules and those
+    /// of a user. The text that the condition was read from names its unread parts. Normal forms of
+    /// more than `MAX_LEVELS` levels take no part.
+    ///
+    /// `Sql` if the types of a test don't fit. `Stats` if memory is refused for the proofs, or a
+    /// rule of the user failed.
+    pub fn of_condition(
+        alloc: Global,
+        text: &str,
+        condition: Condition,
+        schema: Schema,
+        rules: &Rules,
+    ) -> Result<PruningCondition, ConditionError>
+        ensures condition { IfOk result (λ made. made.condition ≡ condition) }
+        ensures schema { IfOk result (λ made. schema_of made ≡ schema) }
+        // The types of each test fit.
+        ensures typed { IfOk result (λ made. misfits schema condition ≡ []) }
+        // The proofs are those that the rules have of a predicate which means on each row what the
+        // condition means.
+        ensures says { IfOk result (λ made. Says schema condition made.predicate) }
+        ensures made { let own = ⟦<Rules as OwnRules>⟧.own rules.now in
+            IfOk result (λ made. IsMadeBy own (Some max_levels) (pruning_of made)) }
+        // Says what the proofs tell by statistics of the schema's columns, whatever the leaves mean
+        // that aren't read, whichever lawful rules took part.
+        ensures refutes { IfOk result (λ made. Refutes schema condition made.falsifier) }
+        ensures confirms { IfOk result (λ made. Confirms schema condition made.satisfier) }
+        // By built-in rules no proof has a column outside its placeholders.
+        ensures closed { rules.now.own.items ≡ [] → IfOk result (λ made.
+            (is_open made.falsifier ≡ false) × (is_open made.satisfier ≡ false)) }
+        // A misfit is the first of the condition. A refusal for the proofs, other than for memory,
+        // has its cause: a rule of the user asked at a node of the condition's predicate or of a
+        // form of it.
+        ensures refused { let own = ⟦<Rules as OwnRules>⟧.own rules.now in
+            IfErr result (IsProvingRefusal own schema condition) }
+        // By built-in rules a condition is refused for its types or for memory alone.
+        ensures memory { rules.now.own.items ≡ [] → IfErr result IsOfTextOrMemory }
+    {
+        proofs_tell_of_conditions();
+        let sql = over_schema(alloc, text, condition, &schema)?;
+        // The scope of the predicate is one.
+        let _columns = sql.scope.len();
+        let proofs = PruningPredicate::try_new_within(alloc, &sql.predicate, rules, MAX_LEVELS)?;
+        Ok(PruningCondition {
+            schema,
+            sql,
+            proofs,
+        })
+    }
+
+    /// Reads the text of a condition over the columns of a schema, and makes its proofs by the
     /// built-in rules and those of a user. Normal forms of more than `MAX_LEVELS` levels take no
     /// part.
     ///
-    /// `Sql` if the text is no condition over the scope. `Stats` if memory is refused for the
+    /// `Sql` if the text is no condition over the columns. `Stats` if memory is refused for the
     /// proofs, or a rule of the user failed.
     pub fn try_new(
         alloc: Global,
         text: &str,
-        scope: &Scope,
+        schema: Schema,
         names: Names,
         rules: &Rules,
     ) -> Result<PruningCondition, ConditionError>
-        ensures scope { IfOk result (λ made. made.scope ≡ scope.now) }
+        ensures schema { IfOk result (λ made. schema_of made ≡ schema) }
+        // A name of several parts is the column of its last part where that is wanted, and else
+        // isn't read.
+        ensures named { IfOk result (λ made. AreNamed text.now names made.condition) }
         // The leaves of the condition that was read ascend within the text.
         ensures places { IfOk result (λ made. Ascends 0 (leaves made.condition) (length text.now)) }
         // Between two of them stands AND exactly where AND joins them.
         ensures joined { IfOk result (λ made.
             Joins text.now 0 (leaves made.condition) (false ∷ ands made.condition)) }
         // The types of each fit.
-        ensures typed { IfOk result (λ made. misfits scope.now made.condition ≡ []) }
+        ensures typed { IfOk result (λ made. misfits schema made.condition ≡ []) }
         // The proofs are those that the rules have of a predicate which means on each row what the
         // condition means.
-        ensures says { IfOk result (λ made.
-            Says scope.now made.condition made.predicate) }
+        ensures says { IfOk result (λ made. Says schema made.condition made.predicate) }
         ensures made { let own = ⟦<Rules as OwnRules>⟧.own rules.now in
-            IfOk result (λ made.
-            IsMadeBy own (Some max_levels) (pruning_of made)) }
-        // Says what the proofs tell by statistics of the scope, whatever the leaves mean that
-        // aren't read, whichever lawful rules took part.
-        ensures refutes { IfOk result (λ made.
-            Refutes scope.now made.condition made.falsifier) }
-        ensures confirms { IfOk result (λ made.
-            Confirms scope.now made.condition made.satisfier) }
+            IfOk result (λ made. IsMadeBy own (Some max_levels) (pruning_of made)) }
+        // Says what the proofs tell by statistics of the schema's columns, whatever the leaves mean
+        // that aren't read, whichever lawful rules took part.
+        ensures refutes { IfOk result (λ made. Refutes schema made.condition made.falsifier) }
+        ensures confirms { IfOk result (λ made. Confirms schema made.condition made.satisfier) }
         // By built-in rules no proof has a column outside its placeholders.
         ensures closed { rules.now.own.items ≡ [] → IfOk result (λ made.
             (is_open made.falsifier ≡ false) × (is_open made.satisfier ≡ false)) }
-        // A refusal for the text has a place in it; a misfit is the first of the condition.
-        ensures refused { IfErr result (IsConditionRefusal text.now scope.now) }
+        // A refusal for the text has a place in it; a misfit is the first of the condition. One for
+        // the proofs, other than for memory, has its cause: a rule of the user asked at a node of
+        // the condition's predicate or of a form of it.
+        ensures refused { let own = ⟦<Rules as OwnRules>⟧.own rules.now in
+            IfErr result (IsConditionRefusal own text.now schema) }
         // By built-in rules a condition is refused for its text or for memory alone.
         ensures memory { rules.now.own.items ≡ [] → IfErr result IsOfTextOrMemory }
     {
-        proofs_tell_of_conditions();
-        let sql = condition_by(alloc, text, scope, names)?;
-        // The scope of the predicate is one.
-        let _columns = sql.scope.len();
-        let proofs = PruningPredicate::try_new_within(alloc, &sql.predicate, rules, MAX_LEVELS)?;
-        let scope = match scope.try_clone() {
-            Ok(scope) => scope,
-            Err(refused) => return Err(ConditionError::Stats(StatsError::Memory(refused))),
-        };
-        Ok(PruningCondition { scope, sql, proofs })
+        match parse(alloc, text, names) {
+            Ok(condition) => PruningCondition::of_condition(alloc, text, condition, schema, rules),
+            Err(refused) => Err(ConditionError::Sql(SqlError::Syntax(refused))),
+        }
     }
 
     /// Returns the columns that the condition may name.
     pub fn scope(&self) -> &Scope
         ensures { result.now ≡ self.now.scope }
     {
-        &self.scope
+        self.schema.scope()
     }
 
     /// Returns the predicate that the condition is, with its proofs. Its scope has a column for
@@ -151,7 +204,7 @@ impl PruningCondition {
 
     /// Returns the bytes of the text at which each unread part begins and ends, ascending.
     pub fn unread(&self) -> &[(usize, usize)]
-        ensures { result.now ≡ map span_of (opaques self.now.scope self.now.condition) }
+        ensures { result.now ≡ map span_of (opaques (schema_of self.now) self.now.condition) }
     {
         &self.sql.opaque
     }
@@ -175,8 +228,15 @@ impl PruningCondition {
         // unread leaves mean: none satisfies the condition where the zone is skipped, and each
         // does where it is whole.
         ensures sound { IfOk result (λ vs. (zones : List ZoneData) → IsMapOf zones map.now
-            → IsSoundFor map.now.scope self.now.condition zones (skipped_places vs.items)
+            → IsSoundFor (schema_of self.now) self.now.condition zones (skipped_places vs.items)
             (whole_places vs.items)) }
+        // No falsifier that has a column outside its placeholders was bound.
+        ensures shut { IfOk result (λ _. is_left_open self.now.falsifier map.now.rows ≡ false) }
+        // A refusal other than for memory is `OpenProof`, and only where a proof has a column
+        // outside its placeholders and the map a zone.
+        ensures refused { let f = open_causes self.now.falsifier map.now.rows in
+            let s = open_causes self.now.satisfier map.now.rows in
+            IfErr result (IsRefusal (either_causes f s)) }
         // Proofs that have no column outside their placeholders leave memory alone to refuse.
         ensures memory { is_open self.now.falsifier ≡ false → is_open self.now.satisfier ≡ false
             → IfErr result IsMemory }
