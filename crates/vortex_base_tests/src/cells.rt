@@ -137,6 +137,32 @@ fn texts_and_bytes_are_held(rt: HostRuntime) {
     }
 }
 
+// The cells with the value and null behind.
+fn pushed(rt: &impl Abort, mut cells: ArrayData, value: ScalarValue) -> ArrayData {
+    cells.push(Some(value)).expect(rt, "a value");
+    cells.push(None).expect(rt, "null");
+    cells
+}
+
+#[test]
+fn texts_and_bytes_have_arrays_of_their_own(rt: HostRuntime) {
+    let alloc = rt.alloc();
+    let text = text_value(alloc, "a text").expect(&rt, "a text");
+    let texts = pushed(&rt, ArrayData::new(alloc, UTF8_OR_NULL), copy(&rt, &text));
+    assert!(rt; matches!(&texts, ArrayData::Utf8(_)));
+    let room = ArrayData::with_capacity(alloc, UTF8_OR_NULL, 2).expect(&rt, "room");
+    assert!(rt; matches!(&pushed(&rt, room, text), ArrayData::Utf8(_)));
+    let bytes = bytes_value(alloc, &[0xC1, 0]).expect(&rt, "bytes");
+    let binaries = pushed(
+        &rt,
+        ArrayData::new(alloc, BINARY_OR_NULL),
+        copy(&rt, &bytes),
+    );
+    assert!(rt; matches!(&binaries, ArrayData::Binary(_)));
+    let room = ArrayData::with_capacity(alloc, BINARY_OR_NULL, 2).expect(&rt, "room");
+    assert!(rt; matches!(&pushed(&rt, room, bytes), ArrayData::Binary(_)));
+}
+
 // Whether the column lends the value and null as slices of their type.
 fn lends<T: Native + PartialEq>(column: &Column, value: T) -> bool {
     let Some(natives) = column.natives::<T>() else {

@@ -4,6 +4,7 @@ mod bitsets;
 mod bounds;
 mod callers;
 mod columns;
+mod merge_rows;
 mod merges;
 mod precisions;
 mod refused;

@@ -22,6 +22,6 @@ full_from p n (c ∷ cs) = ap (λ rows. satisfying_rows p n c ++ rows) (full_fro
 
 -- the full scan of what was measured has the rows of the chunks
 pub measured_rows : {E : Type 0} (p : Tree Place) (chunks : List ChunkData) (parts : List PartData) (r : Result Scan E) → parts ≡ map measured_part chunks → AllByRecursion IsTruePart parts
-    → IfOk r (λ scan. AllByRecursion IsTruePart parts → scan.selected ≡ full p parts) → IfOk r (λ scan. scan.selected ≡ rows_of_chunks p chunks)
+    → IfOk r (λ scan. AllByRecursion IsTruePart parts → scan.selected.items ≡ full p parts) → IfOk r (λ scan. scan.selected.items ≡ rows_of_chunks p chunks)
 measured_rows p chunks parts (Err e) is truth rows = tt
 measured_rows p chunks parts (Ok scan) is truth rows = rows truth ∙ ap (full p) is ∙ full_from p 0 chunks

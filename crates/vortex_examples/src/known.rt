@@ -114,7 +114,7 @@ pub fn scan_by_known(
     requires plain { IsTrue (is_plain predicate.now) }
     requires fits { All (λ part. IsTrue (fits_scope predicate.now part.chunk.scope)) parts.now }
     ensures selected { AreKnown parts.now told.now
-        → IfOk result (λ scan. scan.selected ≡ full predicate.now parts.now) }
+        → IfOk result (λ scan. scan.selected.items ≡ full predicate.now parts.now) }
     // Such binders have no faults of their own, so by built-in rules memory alone is refused.
     ensures memory { IsTrue (is_predicate predicate.now) → rules.now.own.items ≡ []
         → IfErr result IsMemory }

@@ -28,7 +28,7 @@ pub fn scan_by_statistics(
     requires fits { All (λ part. IsTrue (fits_scope predicate.now part.chunk.scope)) parts.now }
     // Where the statistics are true it selects the full scan's rows.
     ensures full { IfOk result (λ scan. AllByRecursion IsTruePart parts.now
-        → scan.selected ≡ full predicate.now parts.now) }
+        → scan.selected.items ≡ full predicate.now parts.now) }
     ensures memory { IsTrue (is_predicate predicate.now) → IfErr result IsMemory }
 {
     statistics_binders_are_honest();
@@ -71,7 +71,7 @@ pub fn scan_measured(
     requires fits { All (λ chunk. IsTrue (fits_scope predicate.now chunk.scope)) chunks.items }
     // Every row of the chunks that satisfies the predicate, and no other, whoever wrote them.
     ensures rows { IfOk result (λ scan.
-        scan.selected ≡ rows_of_chunks predicate.now chunks.items) }
+        scan.selected.items ≡ rows_of_chunks predicate.now chunks.items) }
     ensures memory { IsTrue (is_predicate predicate.now) → IfErr result IsMemory }
 {
     let parts = parts_measured(alloc, chunks)?;
@@ -99,7 +99,7 @@ pub fn scan_checked(
     requires plain { IsTrue (is_plain predicate.now) }
     requires fits { All (λ part. IsTrue (fits_scope predicate.now part.chunk.scope)) parts.now }
     ensures rows { IfOk result (λ answer. IfSome answer (λ scan.
-        scan.selected ≡ full predicate.now parts.now)) }
+        scan.selected.items ≡ full predicate.now parts.now)) }
     ensures checked { IfOk result (λ answer.
         IsSome answer ↔ AllByRecursion IsTruePart parts.now) }
     ensures memory { IsTrue (is_predicate predicate.now) → IfErr result IsMemory }

@@ -25,7 +25,7 @@ pub fn scan_by_null_operands(
     requires fits { All (λ part. IsTrue (fits_scope predicate.now part.chunk.scope)) parts.now }
     // The rule loses no row: where the statistics are true these are the full scan's.
     ensures full { IfOk result (λ scan. AllByRecursion IsTruePart parts.now
-        → scan.selected ≡ full predicate.now parts.now) }
+        → scan.selected.items ≡ full predicate.now parts.now) }
 {
     statistics_binders_are_honest();
     let binders = StatsBinder::of_parts(alloc, parts)?;

@@ -1,5 +1,6 @@
 -- What a scan selects, skips and refuses.
 pub mod Complete
+pub mod Found
 pub mod Gaps
 pub mod Keys
 pub mod Leaves

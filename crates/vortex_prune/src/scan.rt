@@ -137,7 +137,7 @@ pub fn scan<B: StatBinder>(
     // With honest binders no wanted row is lost, whichever lawful rules took part.
     ensures selected { IfOk result (λ scan. AreFaithful B.is_faithful_over parts.now binders.now
         → AreHonest B.value parts.now binders.now
-        → scan.selected ≡ full predicate.now parts.now) }
+        → scan.selected.items ≡ full predicate.now parts.now) }
     // With faithful binders a part is skipped exactly if the falsifier is true of it.
     ensures skipped { let own = ⟦<Rules as OwnRules>⟧.own rules.now in
         IfOk result (λ scan. AreFaithful B.is_faithful_over parts.now binders.now

@@ -127,6 +127,30 @@ fn a_count_of_nulls_is_a_column(rt: HostRuntime) {
     expect_bound(&rt, alloc, first, &unknown, null_of(alloc, U64));
 }
 
+fn all_null_first(alloc: Global) -> Built {
+    all_null(alloc, col(alloc, 0, I32))
+}
+
+// A truth of all values isn't derived from their count.
+#[test]
+fn a_binder_of_counts_knows_no_truths(rt: HostRuntime) {
+    let alloc = rt.alloc();
+    let null = null_of(alloc, BOOL);
+    expect_bound(&rt, alloc, all_null_first(alloc), &knowing(), null);
+}
+
+// A statistic that isn't known is null, and nothing is reduced by it.
+#[test]
+fn missing_statistics_bind_to_null_without_reducing(rt: HostRuntime) {
+    let (alloc, unknown) = (rt.alloc(), NullCounts { are_known: false });
+    let both = and(alloc, truth(alloc, false), all_null_first(alloc));
+    let expected = and(alloc, truth(alloc, false), null_of(alloc, BOOL));
+    expect_bound(&rt, alloc, both, &unknown, expected);
+    let either = or(alloc, truth(alloc, true), all_null_first(alloc));
+    let expected = or(alloc, truth(alloc, true), null_of(alloc, BOOL));
+    expect_bound(&rt, alloc, either, &unknown, expected);
+}
+
 // The rows 1, null, 3 of a column `a`, which are at most 20, and of which one is null.
 fn part(alloc: Global) -> Result<Part, StatsError> {
     let set = and_exactly(

@@ -49,7 +49,7 @@ fn rules_that_claim(
 fn expect_found(rt: &impl Abort, found: Found, skipped: &[usize], selected: &[(usize, usize)]) {
     let found = found.expect(rt, "found");
     assert!(rt; found.skipped.as_slice() == skipped);
-    assert!(rt; are_rows(&found.selected, selected));
+    assert!(rt; found.selected.as_slice() == selected);
 }
 
 // The table of parts of one column `a`.

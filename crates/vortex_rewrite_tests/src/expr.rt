@@ -52,6 +52,16 @@ fn are_bound_to_placeholders(rt: HostRuntime) {
     expect_placed(&rt, alloc, aggregated(alloc, a(&rt, alloc), Max), placed);
 }
 
+#[test]
+fn placeholders_of_other_types_are_unsupported(rt: HostRuntime) {
+    let alloc = rt.alloc();
+    let texts = col(alloc, 0, UTF8).expect(&rt, "texts");
+    let sum = placed::sum(alloc, texts);
+    assert!(rt; matches!(sum, Err(StatsError::Unsupported)));
+    let nans = placed::stat(alloc, placed_a(&rt, alloc), AggregateFnRef::NanCount);
+    assert!(rt; matches!(nans, Err(StatsError::Unsupported)));
+}
+
 type Proof = Result<Option<BoundExpression>, HookFault>;
 
 fn proof_of(alloc: Global, truth: bool) -> Proof

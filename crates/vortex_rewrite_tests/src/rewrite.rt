@@ -10,6 +10,7 @@ use vortex_stats::StatsError;
 use vortex_testing::nodes::*;
 
 mod own;
+mod trees;
 
 type Proof = Result<Option<BoundExpression>, StatsError>;
 

@@ -14,8 +14,7 @@ use vortex_expr::BoundExpression;
 use vortex_prune::scan::scan;
 use vortex_prune::scan::zones::scan_zones;
 use vortex_prune::{
-    Part, PartRefused, Pruned, Rules, Scan, SelectedRows, StatBinder, StatsBinder, Zones, prune,
-    scan_ranges,
+    Part, PartRefused, Pruned, Rules, Scan, StatBinder, StatsBinder, Zones, prune, scan_ranges,
 };
 use vortex_stats::{Precision, RuleFault, Stat, StatsError, StatsSet};
 use vortex_zone_map::{Zone, ZoneMap};
@@ -556,19 +555,6 @@ pub fn is_memory(refused: &StatsError) -> bool {
     matches!(refused, StatsError::Memory(_))
 }
 
-/// Whether the selected rows are these.
-pub fn are_rows(selected: &SelectedRows, rows: &[(usize, usize)]) -> bool {
-    if selected.len() != rows.len() {
-        return false;
-    }
-    for i in 0..rows.len() {
-        if selected.get(i) != Some(rows[i]) {
-            return false;
-        }
-    }
-    true
-}
-
 /// Whether the scan found these parts and rows.
 pub fn has_found(
     found: &Scan,
@@ -578,5 +564,5 @@ pub fn has_found(
 ) -> bool {
     found.skipped.as_slice() == skipped
         && found.whole.as_slice() == whole
-        && are_rows(&found.selected, selected)
+        && found.selected.as_slice() == selected
 }

@@ -12,7 +12,7 @@ use Rattle.vortex_prune.specs.Part.{IsTruePart, PartData}
 use Rattle.vortex_rewrite.specs.Rewriting.Falsifiers.{falsifier, satisfier}
 use Rattle.vortex_rewrite.specs.Rewriting.Proof.{Assignment}
 use Rattle.vortex_prune.specs.Scanning.Selection.{Answered, full, is_proved, is_whole, place_if, rows_by, satisfying, satisfying_rows, selected_rows, skipped_parts, verdict, whole_parts}
-use Rattle.vortex_prune.specs.declared.scan.outcome.Scan.{Scan}
+use Rattle.vortex_prune.specs.declared.scan.outcome.RangeScan.{RangeScan}
 use Rattle.vortex_text.specs.Batches.{CanRise, CanRiseRows, IsFoundIn, raised, raised_row}
 use Rattle.vortex_text.specs.Program.{by_statistics, selected, skipped, whole}
 
@@ -154,7 +154,7 @@ module _ (p : Tree Place) where
       collected_behind (λ i (e : PartData). satisfying_rows p i e.chunk) raised_row (λ k m e. pairs_rise k m (satisfying p e.chunk)) n xs ys long
 
   -- what was found in some parts, with what is found in those behind them
-  pub found_behind : (n : ℕ) (xs ys : List PartData) (old more new : Scan) → length xs ≡ n → IsFoundIn p xs old → IsFoundIn p ys more
+  pub found_behind : (n : ℕ) (xs ys : List PartData) (old more new : RangeScan) → length xs ≡ n → IsFoundIn p xs old → IsFoundIn p ys more
       → new.skipped.items ≡ old.skipped.items ++ map (raised n) more.skipped.items
       → new.whole.items ≡ old.whole.items ++ map (raised n) more.whole.items
       → new.selected ≡ old.selected ++ map (raised_row n) more.selected
@@ -171,7 +171,7 @@ module _ (p : Tree Place) where
 
   -- ---- the places fit
 
-  module _ (n : ℕ) (ys : List PartData) (more : Scan) (few : n + length ys < 2 ^ 64) (found : IsFoundIn p ys more) where
+  module _ (n : ℕ) (ys : List PartData) (more : RangeScan) (few : n + length ys < 2 ^ 64) (found : IsFoundIn p ys more) where
     long : length (map by_statistics ys) ≡ length ys
     long = length-map ys by_statistics
 

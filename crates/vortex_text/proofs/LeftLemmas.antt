@@ -20,7 +20,7 @@ use Rattle.vortex_prune.specs.Scanning.Selection.{full, selected_rows}
 use Rattle.vortex_prune.specs.Scanning.ZoneScans.{skipped_zones, statistics_answers, whole_zones}
 use Rattle.vortex_prune.specs.Zones.{zones_of}
 use Rattle.vortex_zone_map.specs.ZoneMaps.{IsMapOf, MapData}
-use Rattle.vortex_prune.specs.declared.scan.outcome.Scan.{Scan}
+use Rattle.vortex_prune.specs.declared.scan.outcome.RangeScan.{RangeScan}
 use Rattle.vortex_rewrite.specs.Rewriting.Falsifiers.{falsifier, satisfier}
 use Rattle.vortex_text.proofs.Fitting.PartFits.{one_of}
 use Rattle.vortex_text.proofs.StoreLemmas.{counts_append, ranges_long}
@@ -84,7 +84,7 @@ ranges_of_map k from m zones same of within =
 
 -- ---- a scan of them
 
-module _ (p : Tree Place) (k : ChunkData) (row : ℕ) (m : MapData) (zones : List ZoneData) (found : Scan) where
+module _ (p : Tree Place) (k : ChunkData) (row : ℕ) (m : MapData) (zones : List ZoneData) (found : RangeScan) where
   abbrev parts : List PartData
   parts = range_parts k row zones
 

@@ -13,7 +13,7 @@ use Rattle.vortex_prune.specs.Binding.PartAnswers.{part_values, told_values}
 use Rattle.vortex_prune.specs.Scanning.Selection.{answered, is_proved, is_whole, proves_of, skipped_parts, verdict, whole_parts}
 use Rattle.vortex_prune.specs.Scanning.ZoneScans.{skipped_zones, whole_zones, zone_verdict}
 use Rattle.vortex_prune.specs.Zones.{zones_of}
-use Rattle.vortex_prune.specs.declared.scan.outcome.Scan.{Scan}
+use Rattle.vortex_prune.specs.declared.scan.outcome.RangeScan.{RangeScan}
 use Rattle.vortex_rewrite.specs.Answers.{IsMemory}
 use Rattle.vortex_stats.specs.declared.error.StatsError.{StatsError}
 use Rattle.vortex_stats.specs.declared.error.StatsError.TheVariants as faults
@@ -63,14 +63,14 @@ module _ (f s : Option (Tree Place)) (scope : List Named) where
 -- ---- how far a scan by batches has come
 
 -- of all parts those in front are scanned, this is found in them, and these are left
-pub record IsReached (predicate : Tree Place) (all : List PartData) (before : ℕ) (found : Scan) (left : List PartData) : Type 0 where
+pub record IsReached (predicate : Tree Place) (all : List PartData) (before : ℕ) (found : RangeScan) (left : List PartData) : Type 0 where
   pub within : before ≤ length all
   pub left_is : left ≡ drop before all
   pub so_far : IsFoundIn predicate (take before all) found
 
 module _ (p : Tree Place) (all : List PartData) where
   -- some more of them are scanned
-  pub reached_next : (before n : ℕ) (old new : Scan) (left next : List PartData) → before + n ≤ length all → IsReached p all before old left → next ≡ drop n left → IsFoundIn p (take before all ++ take n left) new
+  pub reached_next : (before n : ℕ) (old new : RangeScan) (left next : List PartData) → before + n ≤ length all → IsReached p all before old left → next ≡ drop n left → IsFoundIn p (take before all ++ take n left) new
       → IsReached p all (before + n) new next
   reached_next before n old new left next within r is more = record {
     within = within;
@@ -79,7 +79,7 @@ module _ (p : Tree Place) (all : List PartData) where
   }
 
   -- those that are left are of the same query
-  pub reached_query : (scope : List Named) (before : ℕ) (found : Scan) (left : List PartData) → IsReached p all before found left → IsQueryOver scope all p → IsQueryOver scope left p
+  pub reached_query : (scope : List Named) (before : ℕ) (found : RangeScan) (left : List PartData) → IsReached p all before found left → IsQueryOver scope all p → IsQueryOver scope left p
   reached_query scope before found left r query = record {
     is_scope = query.is_scope;
     are_parts = subst (All (IsPartOf scope)) (sym r.left_is) (All-drop (IsPartOf scope) before all query.are_parts);

@@ -4,11 +4,11 @@ use Rattle.std.specs.List.{AllByRecursion}
 use Rattle.vortex_expr.specs.Trees.Tree.{Tree, Place}
 use Rattle.vortex_prune.specs.Part.{IsTruePart, PartData}
 use Rattle.vortex_prune.specs.Scanning.Selection.{full}
-use Rattle.vortex_prune.specs.declared.scan.outcome.Scan.{Scan}
+use Rattle.vortex_prune.specs.declared.scan.outcome.RangeScan.{RangeScan}
 use Rattle.vortex_text.specs.Program.{selected, skipped, whole}
 
 -- this is what is found in these parts
-pub record IsFoundIn (predicate : Tree Place) (parts : List PartData) (found : Scan) : Type 0 where
+pub record IsFoundIn (predicate : Tree Place) (parts : List PartData) (found : RangeScan) : Type 0 where
   pub skipped : found.skipped.items ≡ skipped predicate parts
   pub whole : found.whole.items ≡ whole predicate parts
   pub selected : found.selected ≡ selected predicate parts

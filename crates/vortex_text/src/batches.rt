@@ -9,7 +9,7 @@ use crate::parts::PartsLeft;
 use std::alloc::{AllocError, Global};
 use vortex_base::Scope;
 use vortex_expr::BoundExpression;
-use vortex_prune::{Scan, SelectedRows};
+use vortex_prune::{RangeScan, SelectedRows};
 
 // Adds places of parts that stand behind some others.
 fn add_places(places: &mut Vec<usize>, more: &[usize], before: usize) -> Result<(), AllocError>
@@ -34,10 +34,10 @@ fn add_rows(rows: &mut SelectedRows, more: &SelectedRows, before: usize) -> Resu
 }
 
 /// The scan of no parts.
-pub fn nothing_found(alloc: Global, predicate: &BoundExpression) -> Scan
+pub fn nothing_found(alloc: Global, predicate: &BoundExpression) -> RangeScan
     ensures { IsFoundIn predicate.now [] result }
 {
-    Scan {
+    RangeScan {
         selected: SelectedRows::new(alloc),
         skipped: Vec::new(alloc),
         whole: Vec::new(alloc),
@@ -51,7 +51,7 @@ pub fn scan_more(
     alloc: Global,
     scope: &Scope,
     predicate: &BoundExpression,
-    found: &mut Scan,
+    found: &mut RangeScan,
     before: usize,
     left: &mut PartsLeft<'_>,
     count: usize,

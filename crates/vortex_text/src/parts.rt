@@ -14,7 +14,7 @@ use std::marker::Model;
 use vortex_base::chunk::Chunk;
 use vortex_base::scope::Scope;
 use vortex_expr::bound_expression::BoundExpression;
-use vortex_prune::scan::outcome::Scan;
+use vortex_prune::scan::outcome::RangeScan;
 use vortex_prune::scan::ranges::scan_ranges_from;
 use vortex_rewrite::rewrite::rules::Rules;
 use vortex_stats::error::StatsError;
@@ -126,7 +126,7 @@ impl<'a> PartsLeft<'a> {
         scope: &Scope,
         predicate: &BoundExpression,
         count: usize,
-    ) -> Result<Scan, AllocError>
+    ) -> Result<RangeScan, AllocError>
         requires query { IsQueryOver scope.now self.now predicate.now }
         requires predicate { IsTrue (is_predicate predicate.now) }
         requires some { 0 < count }

@@ -9,7 +9,7 @@ ghost use Rattle.vortex_text.specs.Streams.{HasNotFailed, IsCutOff, Passes};
 use crate::page::{CutOff, Front, Page};
 use crate::streams::Sink;
 use std::alloc::{AllocError, Global};
-use vortex_prune::scan::outcome::Scan;
+use vortex_prune::scan::outcome::RangeScan;
 use vortex_prune::scan::selected_rows::SelectedRows;
 
 fn print_parts<W: Sink>(writer: &mut W, page: &mut Page, parts: &[usize]) -> Result<(), CutOff>
@@ -114,7 +114,7 @@ fn print_whole<W: Sink>(writer: &mut W, page: &mut Page, parts: &[usize]) -> Res
 /// Writes the lines of a scan, in no memory: the parts that were skipped, the rows that were
 /// selected, and the parts that are whole where there are any. It stops at the first write that
 /// fails or takes nothing.
-pub fn print_scan<W: Sink>(writer: &mut W, scan: &Scan) -> Result<(), CutOff>
+pub fn print_scan<W: Sink>(writer: &mut W, scan: &RangeScan) -> Result<(), CutOff>
     ensures printed { OnOk result (Appends (W.contents writer.old) (W.contents writer.new)
         (scan_text scan.now.skipped.items scan.now.selected scan.now.whole.items)) }
     ensures unfailed { OnOk result (HasNotFailed (W.has_failed writer.old)

@@ -15,7 +15,7 @@ use crate::printing::{print_bad, print_scan};
 use crate::query::scan_query;
 use crate::streams::{Sink, Source, write_out};
 use std::alloc::{AllocError, Global};
-use vortex_prune::Scan;
+use vortex_prune::RangeScan;
 
 // Why there is no answer, beside the word that the answer is then.
 const NO_PREDICATE: &str = "predicate: the expression behind where is not of type bool\n";
@@ -37,7 +37,7 @@ struct Refusal {
     reason: String,
 }
 
-type Reply = Result<Scan, Refusal>;
+type Reply = Result<RangeScan, Refusal>;
 
 // A reason, if there was memory for it: where there was none the answer stands without it.
 fn told(alloc: Global, reason: Result<String, AllocError>) -> String {

@@ -14,7 +14,7 @@ use crate::parts::Parts;
 use std::alloc::{AllocError, Global};
 use vortex_base::{DType, Scope};
 use vortex_expr::BoundExpression;
-use vortex_prune::Scan;
+use vortex_prune::RangeScan;
 use vortex_zone_map::ZoneMap;
 
 /// A query of a text: parts of one scope, and a predicate over it.
@@ -61,7 +61,7 @@ fn is_predicate(expression: &BoundExpression) -> bool
 
 /// The scan of the parts, in tables of their statistics, or none where the predicate isn't of type
 /// Bool.
-pub fn scan_query(alloc: Global, query: Query) -> Result<Option<Scan>, AllocError>
+pub fn scan_query(alloc: Global, query: Query) -> Result<Option<RangeScan>, AllocError>
     requires { IsQueryOver query.scope query.parts query.predicate }
     ensures kind { IfOk result (λ o. is_some o ≡ is_predicate query.predicate) }
     ensures skipped { IfOk result (λ o. IfSome o

@@ -4,4 +4,5 @@ pub mod JoinRows
 pub mod LogRows
 pub mod Maps
 pub mod StatRows
+pub mod TableRows
 pub mod Witnesses

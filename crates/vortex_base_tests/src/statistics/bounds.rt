@@ -20,6 +20,115 @@ fn bounds_against_values(rt: HostRuntime) {
     assert!(rt; !lower.is_exact());
 }
 
+#[test]
+fn an_inexact_upper_bound_equals_no_value(rt: HostRuntime) {
+    let upper = UpperBound::lift(Precision::Inexact(10));
+    assert!(rt; !upper.eq_value(&10) && upper.partial_cmp_value(&10) == Some(Ordering::Equal));
+    assert!(rt; upper.partial_cmp_value(&11) == Some(Ordering::Less));
+    assert!(rt; upper.partial_cmp_value(&9).is_none());
+}
+
+#[test]
+fn an_exact_upper_bound_compares_as_its_value(rt: HostRuntime) {
+    let upper = UpperBound::lift(Precision::Exact(10));
+    assert!(rt; upper.partial_cmp_value(&10) == Some(Ordering::Equal));
+    assert!(rt; upper.partial_cmp_value(&11) == Some(Ordering::Less));
+}
+
+// The union of two numbers as bounds is this one.
+fn expect_union<B: StatBound<i32> + PartialEq + Drop>(
+    rt: &impl Abort,
+    left: Precision<i32>,
+    right: Precision<i32>,
+    union: Precision<i32>,
+) {
+    let found = B::lift(left).union(&B::lift(right)).expect(rt, "memory");
+    assert!(rt; found == Some(B::lift(union)));
+}
+
+#[test]
+fn unions_of_upper_bounds(rt: HostRuntime) {
+    use Precision::{Exact, Inexact};
+    expect_union::<UpperBound<i32>>(&rt, Exact(10), Exact(12), Exact(12));
+    expect_union::<UpperBound<i32>>(&rt, Inexact(10), Exact(12), Exact(12));
+    expect_union::<UpperBound<i32>>(&rt, Exact(10), Inexact(12), Inexact(12));
+    expect_union::<UpperBound<i32>>(&rt, Inexact(10), Inexact(12), Inexact(12));
+    expect_union::<UpperBound<i32>>(&rt, Inexact(12), Exact(10), Inexact(12));
+}
+
+#[test]
+fn unions_of_lower_bounds(rt: HostRuntime) {
+    use Precision::{Exact, Inexact};
+    expect_union::<LowerBound<i32>>(&rt, Inexact(4), Exact(5), Inexact(4));
+    expect_union::<LowerBound<i32>>(&rt, Inexact(5), Exact(5), Exact(5));
+}
+
+// The intersection of two numbers as bounds is this one, or Empty.
+fn expect_intersection<B: StatBound<i32> + PartialEq + Drop>(
+    rt: &impl Abort,
+    left: Precision<i32>,
+    right: Precision<i32>,
+    common: Option<Precision<i32>>,
+) {
+    let found = B::lift(left)
+        .intersection(&B::lift(right))
+        .expect(rt, "memory");
+    let expected = match common {
+        Some(value) => IntersectionResult::Value(B::lift(value)),
+        None => IntersectionResult::Empty,
+    };
+    assert!(rt; found == Some(expected));
+}
+
+#[test]
+fn intersections_of_upper_bounds(rt: HostRuntime) {
+    use Precision::{Exact, Inexact};
+    expect_intersection::<UpperBound<i32>>(&rt, Exact(10), Inexact(12), Some(Exact(10)));
+    expect_intersection::<UpperBound<i32>>(&rt, Exact(13), Inexact(12), None);
+    expect_intersection::<UpperBound<i32>>(&rt, Exact(5), Inexact(7), Some(Exact(5)));
+}
+
+#[test]
+fn intersections_of_upper_bounds_of_one_precision(rt: HostRuntime) {
+    use Precision::{Exact, Inexact};
+    expect_intersection::<UpperBound<i32>>(&rt, Exact(10), Exact(10), Some(Exact(10)));
+    expect_intersection::<UpperBound<i32>>(&rt, Exact(10), Exact(12), None);
+    expect_intersection::<UpperBound<i32>>(&rt, Inexact(10), Inexact(12), Some(Inexact(10)));
+}
+
+#[test]
+fn absent_upper_bounds_have_no_union_and_no_intersection(rt: HostRuntime) {
+    let absent: UpperBound<i32> = UpperBound::lift(Precision::Absent);
+    let ten = UpperBound::lift(Precision::Exact(10));
+    assert!(rt; ten.union(&absent).expect(&rt, "memory").is_none());
+    assert!(rt; absent.union(&ten).expect(&rt, "memory").is_none());
+    assert!(rt; ten.intersection(&absent).expect(&rt, "memory").is_none());
+    assert!(rt; absent.intersection(&ten).expect(&rt, "memory").is_none());
+    assert!(rt; absent.partial_cmp_value(&10).is_none() && !absent.eq_value(&10));
+}
+
+#[test]
+fn unions_of_points(rt: HostRuntime) {
+    use Precision::{Exact, Inexact};
+    expect_union::<Precision<i32>>(&rt, Exact(5), Exact(3), Exact(3));
+    expect_union::<Precision<i32>>(&rt, Exact(5), Inexact(8), Inexact(5));
+}
+
+#[test]
+fn intersections_of_lower_bounds(rt: HostRuntime) {
+    use Precision::{Exact, Inexact};
+    expect_intersection::<LowerBound<i32>>(&rt, Exact(12), Inexact(10), Some(Exact(12)));
+    expect_intersection::<LowerBound<i32>>(&rt, Exact(12), Inexact(13), None);
+}
+
+#[test]
+fn intersections_of_points(rt: HostRuntime) {
+    use Precision::{Absent, Exact, Inexact};
+    expect_intersection::<Precision<i32>>(&rt, Exact(3), Inexact(5), Some(Inexact(3)));
+    expect_intersection::<Precision<i32>>(&rt, Exact(5), Inexact(3), Some(Exact(5)));
+    expect_intersection::<Precision<i32>>(&rt, Absent, Exact(1), None);
+}
+
 // An inexact text as a bound.
 fn bound<B: StatBound<Text>>(alloc: Global, value: &str) -> Result<B, AllocError> {
     Ok(B::lift(Precision::Inexact(text_of(alloc, value)?)))

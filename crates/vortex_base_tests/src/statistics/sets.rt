@@ -1,9 +1,10 @@
 //! Sets by the built code: writes, look-ups, readings and iterators.
 use crate::statistics::callers::{counted, entries_of, statistics_of};
-use crate::statistics::testing::{Entry, I32, UTF8, has, int, text};
+use crate::statistics::testing::{Entry, I32, UTF8, has, int, text, word};
 use smallvec::SmallVec;
 use std::alloc::{AllocError, Global};
 use std::process::Abort;
+use vortex_base::scalar_value::ScalarValue;
 use vortex_stats::error::StatsError;
 use vortex_stats::precision::Precision::{Absent, Exact};
 use vortex_stats::stat::Stat::{self, Max, Min, NullCount, Sum};
@@ -78,4 +79,47 @@ fn items(rt: HostRuntime) {
     assert!(rt; has(&set, Max, int(4).into_inexact()));
     assert!(rt; set.get_as::<u8>(Min, &I32).expect(&rt, "a number") == Exact(0));
     assert!(rt; StatsSet::value_fits(Max, &I32, &int(5)) && set.fits(&I32) && !set.fits(&UTF8));
+}
+
+#[test]
+fn entries_are_lent_in_their_order(rt: HostRuntime) {
+    let set = unchecked(rt.alloc()).expect(&rt, "a set");
+    let mut entries = set.iter();
+    let first = entries.next().expect(&rt, "an entry");
+    assert!(rt; first.0 == Max && first.1 == int(100));
+    let second = entries.next().expect(&rt, "an entry");
+    assert!(rt; second.0 == Min && second.1 == int(42));
+    assert!(rt; entries.next().is_none());
+}
+
+#[test]
+fn entries_are_handed_over_in_their_order(rt: HostRuntime) {
+    let mut entries = unchecked(rt.alloc()).expect(&rt, "a set").into_iter();
+    assert!(rt; entries.next().expect(&rt, "an entry") == (Max, int(100)));
+    assert!(rt; entries.next().expect(&rt, "an entry") == (Min, int(42)));
+    assert!(rt; entries.next().is_none());
+}
+
+#[test]
+fn a_number_past_the_type_is_a_mismatch(rt: HostRuntime) {
+    let set = StatsSet::of(rt.alloc(), Max, int(200));
+    assert!(rt; set.get_as::<u8>(Max, &I32).expect(&rt, "a number") == Exact(200));
+    let set = StatsSet::of(rt.alloc(), Max, int(300));
+    assert!(rt; matches!(set.get_as::<u8>(Max, &I32), Err(StatsError::Mismatch)));
+}
+
+#[test]
+fn absent_values_fit_each_statistic(rt: HostRuntime) {
+    let sum = StatsSet::of(rt.alloc(), Sum, Exact(ScalarValue::from(6i64)));
+    assert!(rt; sum.fits(&I32) && !sum.fits(&UTF8));
+    let nans = StatsSet::of(rt.alloc(), Stat::NaNCount, word(0));
+    assert!(rt; !nans.fits(&I32));
+    let absent = StatsSet::of(rt.alloc(), Stat::NaNCount, Absent);
+    assert!(rt; absent.fits(&I32) && absent.len() == 1);
+    assert!(rt;
+        absent
+            .get(Stat::NaNCount)
+            .expect(&rt, "a value")
+            .is_absent()
+    );
 }

@@ -36,3 +36,19 @@ fn kinds(rt: HostRuntime) {
     assert!(rt; StatsError::Memory(AllocError).number() == 1);
     assert!(rt; StatsError::Conflict(Stat::Min).number() == 5);
 }
+
+#[test]
+fn max_and_min_alone_are_of_the_columns_type(rt: HostRuntime) {
+    for stat in Stat::all() {
+        let is_bound = stat == Stat::Max || stat == Stat::Min;
+        assert!(rt; stat.has_same_dtype_as_array() == is_bound);
+    }
+}
+
+#[test]
+fn sorted_truths_alone_are_not_commutative(rt: HostRuntime) {
+    for stat in Stat::all() {
+        let is_sorted = stat == Stat::IsSorted || stat == Stat::IsStrictSorted;
+        assert!(rt; stat.is_commutative() != is_sorted);
+    }
+}

@@ -33,10 +33,10 @@ abbrev pub three : Tree Place
 three = literal (record { dtype = i64_type; value = Some (num 3) })
 
 -- by a literal, by a column, and by what stands for nothing
-abbrev by_literal : Fixed
+abbrev pub by_literal : Fixed
 by_literal = record { answer = Some three; missing = a; fault = 0 }
 
-abbrev by_column : Fixed
+abbrev pub by_column : Fixed
 by_column = record { answer = Some a; missing = three; fault = 0 }
 
 abbrev by_none : Fixed
@@ -45,7 +45,7 @@ by_none = record { answer = None; missing = three; fault = 0 }
 abbrev by_missing_column : Fixed
 by_missing_column = record { answer = None; missing = a; fault = 0 }
 
-abbrev greatest : Option (Tree Place)
+abbrev pub greatest : Option (Tree Place)
 greatest = Some (stat Max a)
 
 abbrev Closes : Option (Tree Place) → Fixed → Type 0
@@ -86,7 +86,7 @@ bare_stays_open b h = a_is_open h.0 h.1 h.2
 all_close : AreClosed answers IsMissing greatest (by_literal ∷ by_none ∷ [])
 all_close = All-from_recursion (Closes greatest) (by_literal ∷ by_none ∷ []) (literal_closes, (none_closes, tt))
 
-last_is_open : AreClosed answers IsMissing greatest (by_literal ∷ by_column ∷ []) → ⊥
+pub last_is_open : AreClosed answers IsMissing greatest (by_literal ∷ by_column ∷ []) → ⊥
 last_is_open h = column_leaves_open (h 1 by_column (omega arith))
 
 first_is_open : AreClosed answers IsMissing greatest (by_column ∷ by_literal ∷ []) → ⊥
@@ -131,7 +131,7 @@ not_two x y i first second (zero, less, is) = first is
 not_two x y i first second (suc zero, less, is) = second is
 not_two x y i first second (suc (suc k), less, is) = absurd (omega (arith, less))
 
-last_is_kept : KeptAreClosed answers IsMissing (0 ∷ []) greatest (by_literal ∷ by_column ∷ []) → ⊥
+pub last_is_kept : KeptAreClosed answers IsMissing (0 ∷ []) greatest (by_literal ∷ by_column ∷ []) → ⊥
 last_is_kept h = neither (not_one 0 1 (omega arith)) column_leaves_open (h 1 by_column refl)
 
 first_is_kept : KeptAreClosed answers IsMissing (1 ∷ []) greatest (by_column ∷ by_literal ∷ []) → ⊥
@@ -149,10 +149,10 @@ kept_without_proof i b there = inr tt
 
 -- ---- zones: a satisfier with a column outside its placeholders, and one without
 
-abbrev open_satisfier : Option (Tree Place)
+abbrev pub open_satisfier : Option (Tree Place)
 open_satisfier = Some a
 
-abbrev three_zones : List ℕ
+abbrev pub three_zones : List ℕ
 three_zones = 7 ∷ 8 ∷ 9 ∷ []
 
 all_skipped : IsShutIfKept (0 ∷ 1 ∷ 2 ∷ []) open_satisfier three_zones
@@ -161,7 +161,7 @@ all_skipped (suc zero) less = inl (1, omega arith, refl)
 all_skipped (suc (suc zero)) less = inl (2, omega arith, refl)
 all_skipped (suc (suc (suc i))) less = absurd (omega (arith, less))
 
-last_zone_kept : IsShutIfKept (0 ∷ 1 ∷ []) open_satisfier three_zones → ⊥
+pub last_zone_kept : IsShutIfKept (0 ∷ 1 ∷ []) open_satisfier three_zones → ⊥
 last_zone_kept h = neither (not_two 0 1 2 (omega arith) (omega arith)) true≢false (h 2 (omega arith))
 
 first_zone_kept : IsShutIfKept (1 ∷ 2 ∷ []) open_satisfier three_zones → ⊥
@@ -186,7 +186,7 @@ both_skipped zero v there = subst (λ u. UnlessSkipped u (true ≡ false)) (same
 both_skipped (suc zero) v there = subst (λ u. UnlessSkipped u (true ≡ false)) (same_Some Skipped v there) tt
 both_skipped (suc (suc i)) v there = absurd cc
 
-last_is_whole : IsShutIfVerdict open_satisfier (Skipped ∷ Whole ∷ []) → ⊥
+pub last_is_whole : IsShutIfVerdict open_satisfier (Skipped ∷ Whole ∷ []) → ⊥
 last_is_whole h = true≢false (h 1 Whole refl)
 
 last_is_tested : IsShutIfVerdict open_satisfier (Skipped ∷ Tested ∷ []) → ⊥

@@ -4,6 +4,7 @@ use Rattle.vortex_base.specs.Data.Columns.{ChunkData}
 use Rattle.vortex_expr.specs.Trees.Tree.{Tree, Place}
 use Rattle.vortex_prune.specs.Part.{AreParts, PartData}
 use Rattle.vortex_zone_map.specs.Zone.{ZoneData}
+use Rattle.vortex_prune.specs.Scanning.Found.{Found}
 use Rattle.vortex_prune.specs.Scanning.RangeScans.{AreRangesBehind, ranges_by, satisfying_ranges, selected_from, tested_by, tested_ranges}
 use Rattle.vortex_prune.specs.Scanning.ScanRefusals.{AreClosed, KeptAreClosed, faithful_causes, scan_causes}
 use Rattle.vortex_prune.specs.Scanning.Selection.{Answered, AreFaithful, answered, any_binder, is_skipped, is_whole, places_where, selected_rows, skipped_parts, tested_rows, whole_parts}
@@ -29,7 +30,7 @@ pub record ScansParts (falsifier satisfier : Option (Tree Place)) (p : Tree Plac
   -- and whole exactly if it isn't skipped and the satisfier is true of it
   pub whole : scan.whole.items ≡ whole_parts falsifier satisfier parts
   -- whether or not the answers are facts, all rows of the whole parts are selected, and the satisfying rows of the parts that are neither
-  pub kept : scan.selected ≡ selected_rows falsifier satisfier p parts
+  pub kept : scan.selected.items ≡ selected_rows falsifier satisfier p parts
   -- the rows of these were tested
   pub evaluated : scan.evaluated ≡ min (tested_rows falsifier satisfier parts) (2 ^ 64 - 1)
 
@@ -78,40 +79,40 @@ pub record RefusesByZones (rules : List OwnRule) (p : Tree Place) (parts : List 
 -- ---- scans of one chunk, whose ranges begin at a row
 
 -- by a map of zones, each a range of the chunk's rows, the scan finds this
-pub record ScansRanges (rules : List OwnRule) (p : Tree Place) (k : ChunkData) (from : ℕ) (m : MapData) (scan : Scan) : Type 0 where
+pub record ScansRanges (rules : List OwnRule) (p : Tree Place) (k : ChunkData) (from : ℕ) (m : MapData) (found : Found) : Type 0 where
   -- whatever the table was made of, the verdicts on its rows tell which zones are skipped
-  pub rows_skipped : scan.skipped.items ≡ places_where is_skipped (row_verdicts (falsifier rules p) (satisfier rules p) m)
+  pub rows_skipped : found.skipped ≡ places_where is_skipped (row_verdicts (falsifier rules p) (satisfier rules p) m)
   -- they tell which zones are whole
-  pub rows_whole : scan.whole.items ≡ places_where is_whole (row_verdicts (falsifier rules p) (satisfier rules p) m)
+  pub rows_whole : found.whole ≡ places_where is_whole (row_verdicts (falsifier rules p) (satisfier rules p) m)
   -- they select all rows of the whole zones, and the satisfying rows of those that are neither
-  pub rows_kept : scan.selected ≡ ranges_by p k 0 from (row_verdicts (falsifier rules p) (satisfier rules p) m) m.rows
+  pub rows_kept : found.selected ≡ ranges_by p k 0 from (row_verdicts (falsifier rules p) (satisfier rules p) m) m.rows
   -- the rows of the zones that are neither were tested
-  pub rows_evaluated : scan.evaluated ≡ tested_by (row_verdicts (falsifier rules p) (satisfier rules p) m) m.rows
+  pub rows_evaluated : found.evaluated ≡ tested_by (row_verdicts (falsifier rules p) (satisfier rules p) m) m.rows
   -- whatever rows stand in a skipped zone, if its row of the table is true of them: none satisfies the predicate
-  pub skipped_sound : EachRowOf false p m scan.skipped.items
+  pub skipped_sound : EachRowOf false p m found.skipped
   -- and of a whole one each does
-  pub whole_sound : EachRowOf true p m scan.whole.items
+  pub whole_sound : EachRowOf true p m found.whole
   -- so where each row of the table is true of its range no wanted row is lost and no other is told
-  pub rows_full : AreTrueRanges k from m → scan.selected ≡ satisfying_ranges p k 0 from m.rows
+  pub rows_full : AreTrueRanges k from m → found.selected ≡ satisfying_ranges p k 0 from m.rows
   -- where the map is that of zones, one is skipped exactly if the falsifier is true by its statistics
-  pub skipped : (zones : List ZoneData) → IsMapOf zones m → scan.skipped.items ≡ skipped_zones (falsifier rules p) m.scope zones
+  pub skipped : (zones : List ZoneData) → IsMapOf zones m → found.skipped ≡ skipped_zones (falsifier rules p) m.scope zones
   -- and whole exactly if it isn't skipped and the satisfier is
-  pub whole : (zones : List ZoneData) → IsMapOf zones m → scan.whole.items ≡ whole_zones (falsifier rules p) (satisfier rules p) m.scope zones
+  pub whole : (zones : List ZoneData) → IsMapOf zones m → found.whole ≡ whole_zones (falsifier rules p) (satisfier rules p) m.scope zones
   -- whether or not the statistics are true, all rows of the whole zones are selected, and the satisfying rows of the zones that are neither
-  pub kept : (zones : List ZoneData) → IsMapOf zones m → scan.selected ≡ selected_from (falsifier rules p) (satisfier rules p) p k from m.scope zones
+  pub kept : (zones : List ZoneData) → IsMapOf zones m → found.selected ≡ selected_from (falsifier rules p) (satisfier rules p) p k from m.scope zones
   -- so they are those that a scan of the ranges as parts with their statistics selects
-  pub parted : (parts : List PartData) → AreRangesBehind k from m parts → scan.selected ≡ selected_rows (falsifier rules p) (satisfier rules p) p (statistics_answers parts)
+  pub parted : (parts : List PartData) → AreRangesBehind k from m parts → found.selected ≡ selected_rows (falsifier rules p) (satisfier rules p) p (statistics_answers parts)
   -- the rows of the zones that are neither were tested
-  pub evaluated : (zones : List ZoneData) → IsMapOf zones m → scan.evaluated ≡ tested_ranges (falsifier rules p) (satisfier rules p) m.scope zones
+  pub evaluated : (zones : List ZoneData) → IsMapOf zones m → found.evaluated ≡ tested_ranges (falsifier rules p) (satisfier rules p) m.scope zones
   -- what is answered is a predicate
   pub predicate : IsTrue (is_predicate p)
   -- no falsifier that has a column outside its placeholders was bound
   pub closed : is_left_open (falsifier rules p) m.rows ≡ false
   -- nor such a satisfier, for a zone that isn't skipped
-  pub kept_closed : IsShutIfKept scan.skipped.items (satisfier rules p) m.rows
+  pub kept_closed : IsShutIfKept found.skipped (satisfier rules p) m.rows
 
 -- the refusals of such a scan, by whether the zones are ranges of the chunk
-pub record RefusesRanges (are_ranges : Bool) (rules : List OwnRule) (p : Tree Place) (m : MapData) (result : Result Scan StatsError) : Type 0 where
+pub record RefusesRanges {X : Type 0} (are_ranges : Bool) (rules : List OwnRule) (p : Tree Place) (m : MapData) (result : Result X StatsError) : Type 0 where
   -- exactly where the zones aren't ranges of the chunk, that is refused
   pub mismatch : (result ≡ Err Mismatch) ↔ (are_ranges ≡ false)
   -- where they are, the other refusals have their causes. By built-in rules a predicate is refused for memory alone

@@ -47,8 +47,9 @@ impl Part {
     /// The rows of one part and then those of another of the same scope, as one part: its sets are
     /// merged in that order, and its declared sizes are added. `TooLarge` if two sizes of one
     /// column add up past `u64`, which is found before anything is taken, and else `Memory` if a
-    /// growth or a clone is refused. The rows move and none is cloned; from a refusal both parts
-    /// come back as they were.
+    /// growth or a clone is refused. The rows of the right part are copied behind those of the left
+    /// one, which are copied too where their memory can't grow in place; a refusal hands both parts
+    /// back as they were.
     pub fn join(alloc: Global, left: Part, right: Part) -> Result<Part, JoinRefused>
         requires { left.chunk.scope ≡ right.chunk.scope }
         ensures joined { IfOk result (λ part. part ≡ joined left right) }

@@ -1,10 +1,11 @@
 //! Outcomes of scans.
-ghost use Rattle.std.specs.Prelude.{◌≡◌, ◌+◌, ◌-◌, ◌^◌, ◌≤◌, ◌++◌, IfErr, IsTrue, OnOk};
+ghost use Rattle.std.specs.Prelude.{◌≡◌, ◌+◌, ◌-◌, ◌^◌, ◌≤◌, ◌++◌, IfErr, IfOk, IsTrue, OnOk};
 ghost use Rattle.std.specs.Prelude.{alloc_error, min};
 ghost use Rattle.vortex_base.specs.Data.Columns.{row_count};
 ghost use Rattle.vortex_expr.specs.Meanings.Fitting.{fits_scope};
 ghost use Rattle.vortex_expr.specs.Trees.Tree.{is_plain};
 ghost use Rattle.vortex_prune.specs.Part.{IsPart};
+ghost use Rattle.vortex_prune.specs.Scanning.Found.{found_by, found_in};
 ghost use Rattle.vortex_prune.specs.Scanning.RangeScans.{range_rows, range_tested};
 ghost use Rattle.vortex_prune.specs.Scanning.Selection.{is_skipped, is_whole, place_if};
 ghost use Rattle.vortex_prune.specs.Scanning.Selection.{rows_by, rows_tested};
@@ -14,14 +15,15 @@ use crate::part::Part;
 use crate::scan::select::{RowRange, select};
 use crate::scan::selected_rows::SelectedRows;
 use crate::scan::verdict::Verdict;
+use std::alloc::AllocError;
 use vortex_expr::bound_expression::BoundExpression;
 use vortex_stats::error::StatsError;
 
-/// The outcome of a scan of parts, or of the zones of a map. They and their rows count from 0.
+/// The outcome of a scan of parts. They and their rows count from 0.
 #[derive(Debug, PartialEq, Eq, Drop)]
 pub struct Scan {
     /// The rows that satisfy the predicate, each as its part and its place there, ascending.
-    pub selected: SelectedRows,
+    pub selected: Vec<(usize, usize)>,
     /// The parts that were left out unread, ascending.
     pub skipped: Vec<usize>,
     /// The parts of which all rows were selected without a test, ascending.
@@ -31,7 +33,41 @@ pub struct Scan {
     pub evaluated: u64,
 }
 
-impl Scan {
+/// The outcome of a scan of zones that are ranges of one chunk: that of `Scan`, whose selected rows
+/// take half as much memory. Zones and their rows count from 0.
+#[derive(Debug, PartialEq, Eq, Drop)]
+pub struct RangeScan {
+    /// The rows that satisfy the predicate, each as its zone and its place there, ascending.
+    pub selected: SelectedRows,
+    /// The zones that were left out unread, ascending.
+    pub skipped: Vec<usize>,
+    /// The zones of which all rows were selected without a test, ascending.
+    pub whole: Vec<usize>,
+    /// How many rows were tested: those of the other zones. It stays at the greatest number once it
+    /// is reached.
+    pub evaluated: u64,
+}
+
+impl RangeScan {
+    /// Returns the same outcome with its rows as pairs. If memory is refused, the outcome is
+    /// dropped.
+    pub fn into_scan(self) -> Result<Scan, AllocError>
+        ensures { IfOk result (λ scan. found_by scan ≡ found_in self) }
+    {
+        let RangeScan {
+            selected,
+            skipped,
+            whole,
+            evaluated,
+        } = self;
+        Ok(Scan {
+            selected: selected.into_pairs()?,
+            skipped,
+            whole,
+            evaluated,
+        })
+    }
+
     // Records a range of rows: it was skipped, or all its rows are selected, or those that satisfy.
     pub(crate) fn record_range(
         &mut self,

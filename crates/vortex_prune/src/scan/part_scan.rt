@@ -11,7 +11,7 @@ ghost use Rattle.vortex_prune.specs.declared.scan.verdict.Verdict.{Verdict};
 ghost use Rattle.vortex_stats.specs.declared.error.StatsError.{StatsError};
 
 use crate::part::Part;
-use crate::scan::outcome::Scan;
+use crate::scan::outcome::{RangeScan, Scan};
 use crate::scan::selected_rows::SelectedRows;
 use crate::scan::verdict::Verdict;
 use std::alloc::Global;
@@ -57,7 +57,7 @@ pub(crate) fn scan_parts<T: PartTest>(
     ensures parts { IfOk result (λ _. AreParts parts.now) }
     ensures refusal { IfErr result (IsRefusedAt (T.refuses test.old) parts.now) }
 {
-    let mut scan = Scan {
+    let mut scan = RangeScan {
         selected: SelectedRows::new(alloc),
         skipped: Vec::new(alloc),
         whole: Vec::new(alloc),
@@ -68,5 +68,5 @@ pub(crate) fn scan_parts<T: PartTest>(
         let verdict = test.verdict(alloc, place, part)?;
         scan.record(place, part, verdict, predicate)?;
     }
-    Ok(scan)
+    Ok(scan.into_scan()?)
 }

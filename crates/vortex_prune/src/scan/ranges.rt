@@ -9,6 +9,7 @@ ghost use Rattle.vortex_rewrite.specs.Rewriting.ReadOnce.{has_disjoint_ands};
 ghost use Rattle.vortex_prune.specs.Part.{IsTruePart, PartData};
 ghost use Rattle.vortex_zone_map.specs.Zone.{ZoneData};
 ghost use Rattle.vortex_prune.specs.Scanning.Complete.{ZonesSkipExactly};
+ghost use Rattle.vortex_prune.specs.Scanning.Found.{found_by, found_in};
 ghost use Rattle.vortex_prune.specs.Scanning.Promises.{RefusesRanges, ScansRanges};
 ghost use Rattle.vortex_prune.specs.Scanning.RangeScans.{AreRanges, AreRangesBehind, has_ranges};
 ghost use Rattle.vortex_prune.specs.Scanning.RangeScans.{has_ranges_from, ranges_by, rows_in_chunk};
@@ -19,7 +20,7 @@ ghost use Rattle.vortex_prune.specs.Scanning.TrueRows.{AreTrueRanges};
 ghost use Rattle.vortex_zone_map.specs.ZoneMaps.{IsMapOf};
 ghost use Rattle.vortex_stats.specs.declared.error.StatsError.TheVariants.{Memory};
 
-use crate::scan::outcome::Scan;
+use crate::scan::outcome::{RangeScan, Scan};
 use crate::scan::prune::{has_table, verdicts};
 use crate::scan::select::RowRange;
 use crate::scan::selected_rows::SelectedRows;
@@ -71,7 +72,7 @@ fn scan_counts(
     counts: &[u64],
     verdicts: &[Verdict],
     predicate: &BoundExpression,
-) -> Result<Scan, StatsError>
+) -> Result<RangeScan, StatsError>
     requires long { length verdicts.now ≡ length counts.now }
     requires within { from + sum counts.now ≤ row_count chunk.now.columns }
     ensures skipped { IfOk result (λ scan.
@@ -85,7 +86,7 @@ fn scan_counts(
     ensures memory { IfErr result (λ f. f ≡ Memory alloc_error) }
 {
     let _rows = chunk.rows();
-    let mut scan = Scan {
+    let mut scan = RangeScan {
         selected: SelectedRows::new(alloc),
         skipped: Vec::new(alloc),
         whole: Vec::new(alloc),
@@ -118,7 +119,7 @@ pub fn scan_ranges_from(
     map: &ZoneMap,
     predicate: &BoundExpression,
     rules: &Rules,
-) -> Result<Scan, StatsError>
+) -> Result<RangeScan, StatsError>
     requires plain { IsTrue (is_plain predicate.now) }
     requires fits { IsTrue (fits_scope predicate.now chunk.now.scope) }
     // Where each zone's statistics are true of its range no wanted row of the stretch is lost and
@@ -134,7 +135,8 @@ pub fn scan_ranges_from(
     // Which zones are skipped and whole, which rows are selected and how many tested, by any table
     // and by that of zones; and that no open proof was bound.
     ensures answered { let own = ⟦<Rules as OwnRules>⟧.own rules.now in
-        IfOk result (ScansRanges own predicate.now chunk.now first map.now) }
+        IfOk result (λ scan.
+        ScansRanges own predicate.now chunk.now first map.now (found_in scan)) }
     // When each refusal comes.
     ensures refused { let own = ⟦<Rules as OwnRules>⟧.own rules.now in
         let are_ranges = has_ranges_from chunk.now first map.now in
@@ -177,16 +179,16 @@ pub fn scan_ranges(
     // other is told, whichever lawful rules took part.
     ensures selected { IfOk result (λ scan. (parts : List PartData)
         → AreRanges chunk.now map.now parts → AllByRecursion IsTruePart parts
-        → rows_in_chunk map.now.rows scan.selected
+        → rows_in_chunk map.now.rows scan.selected.items
         ≡ satisfying predicate.now chunk.now) }
     // The same of the ranges as parts.
     ensures full { IfOk result (λ scan. (parts : List PartData)
         → AreRanges chunk.now map.now parts → AllByRecursion IsTruePart parts
-        → scan.selected ≡ full predicate.now parts) }
+        → scan.selected.items ≡ full predicate.now parts) }
     // Whatever the table was made of: where each row of it is true of its range, the selected rows
     // are the chunk's rows that satisfy the predicate.
     ensures rows_selected { IfOk result (λ scan. AreTrueRanges chunk.now 0 map.now
-        → rows_in_chunk map.now.rows scan.selected
+        → rows_in_chunk map.now.rows scan.selected.items
         ≡ satisfying predicate.now chunk.now) }
     // By built-in rules a predicate whose ANDs are apart skips a zone exactly if no values within
     // its bounds satisfy it.
@@ -195,7 +197,8 @@ pub fn scan_ranges(
         → ZonesSkipExactly predicate.now zones scan.skipped.items) }
     // All that `scan_ranges_from` finds from the first row on.
     ensures answered { let own = ⟦<Rules as OwnRules>⟧.own rules.now in
-        IfOk result (ScansRanges own predicate.now chunk.now 0 map.now) }
+        IfOk result (λ scan.
+        ScansRanges own predicate.now chunk.now 0 map.now (found_by scan)) }
     // When each refusal comes.
     ensures refused { let own = ⟦<Rules as OwnRules>⟧.own rules.now in
         let are_ranges = has_ranges chunk.now map.now in
@@ -204,5 +207,6 @@ pub fn scan_ranges(
     if !has_ranges(chunk, map) {
         return Err(StatsError::Mismatch);
     }
-    scan_ranges_from(alloc, chunk, 0, map, predicate, rules)
+    let found = scan_ranges_from(alloc, chunk, 0, map, predicate, rules)?;
+    Ok(found.into_scan()?)
 }

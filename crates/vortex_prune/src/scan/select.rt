@@ -20,9 +20,11 @@ pub(crate) struct RowRange<'a> {
     pub(crate) rows: usize,
 }
 
-// Adds the satisfying rows of a block of the range at a place.
+// Adds the satisfying rows of a block of the range at a place. Nothing else tests a row of a scan
+// or raises the count of tested rows, which it does as it begins.
 fn select_block(
     selected: &mut SelectedRows,
+    evaluated: &mut u64,
     place: usize,
     range: RowRange<'_>,
     predicate: &BoundExpression,
@@ -37,8 +39,10 @@ fn select_block(
         let satisfied = is_true_in predicate.now cs range.entry.first range.entry.rows in
         OnOk result (selected.new ≡ selected.old
         ++ marked_rows place from (marked satisfied from (replicate (to - from) true))) }
+    ensures evaluated { evaluated.new ≡ min (evaluated.old + (to - from)) (2 ^ 64 - 1) }
     ensures memory { IfErr result IsMemory }
 {
+    *evaluated = evaluated.saturating_add((to - from) as u64);
     let chunk = range.chunk;
     let _rows = chunk.rows();
     let counts = Counts::Same(range.rows as u64);
@@ -55,7 +59,7 @@ fn select_block(
     Ok(selected.push_marked(place, from, block)?)
 }
 
-// Adds the satisfying rows of the range at a place, block by block, and counts its rows.
+// Adds the satisfying rows of the range at a place, block by block.
 pub(crate) fn select(
     selected: &mut SelectedRows,
     evaluated: &mut u64,
@@ -71,12 +75,13 @@ pub(crate) fn select(
         (evaluated.new ≡ min (evaluated.old + range.entry.rows) (2 ^ 64 - 1)) }
     ensures memory { IfErr result IsMemory }
 {
+    // Shows that the count is one of 64 bits.
+    let _counted = *evaluated;
     let rows = range.rows;
-    *evaluated = evaluated.saturating_add(rows as u64);
     let mut from = 0;
     'runs: while from < rows {
         let to = block_end(from, rows, BLOCK);
-        select_block(selected, place, range, predicate, from, to)?;
+        select_block(selected, evaluated, place, range, predicate, from, to)?;
         from = to;
     }
     Ok(())

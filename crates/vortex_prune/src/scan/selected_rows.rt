@@ -1,6 +1,6 @@
 //! The rows that a scan selects, each as its part and its place there.
 ghost use Rattle.std.specs.Prelude.{◌≡◌, ◌==◌, ◌↔◌, ◌+◌, ◌^◌, ◌<◌, ◌≤◌, ◌++◌, ◌∷◌, []};
-ghost use Rattle.std.specs.Prelude.{IsTrue, OnErr, OnOk};
+ghost use Rattle.std.specs.Prelude.{IfOk, IsTrue, OnErr, OnOk};
 ghost use Rattle.std.specs.Prelude.{length, nat_lt, slice_get, vec_capacity, vec_len};
 ghost use Rattle.std.specs.Cmp.{partial_equiv_from_equiv};
 ghost use Rattle.std.specs.Iterator.{YieldsFirst, item_count};
@@ -77,6 +77,16 @@ fn push_all(rows: &mut Vec<(u32, u32)>, part: u32, count: u32) -> Result<(), All
     rows.reserve(count as usize)?;
     for row in 0..count {
         rows.push_reserved((part, row));
+    }
+    Ok(())
+}
+
+// Adds rows in 32 bits.
+fn push_pairs(pairs: &mut Vec<(usize, usize)>, rows: &[(u32, u32)]) -> Result<(), AllocError>
+    ensures { OnOk result (pairs.new.items ≡ pairs.old.items ++ rows.now) }
+{
+    for (part, row) in rows {
+        pairs.push((*part as usize, *row as usize))?;
     }
     Ok(())
 }
@@ -201,6 +211,21 @@ impl SelectedRows {
         } else {
             self.push_all_each(part, count)
         }
+    }
+
+    /// Returns the rows as pairs, each as its part and its place there. If memory is refused, they
+    /// are dropped.
+    pub fn into_pairs(self) -> Result<Vec<(usize, usize)>, AllocError>
+        ensures { IfOk result (λ pairs. pairs.items ≡ self) }
+    {
+        let SelectedRows { short, long } = self;
+        if short.is_empty() {
+            return Ok(long);
+        }
+        let mut pairs = Vec::with_capacity(*short.allocator(), short.len() + long.len())?;
+        push_pairs(&mut pairs, &short)?;
+        pairs.extend_from_slice(&long)?;
+        Ok(pairs)
     }
 
     /// The rows in order.

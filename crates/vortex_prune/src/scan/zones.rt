@@ -121,7 +121,7 @@ pub fn scan_zones<'a>(
     requires fits { IsTrue (fits_scope predicate.now zones.now.scope) }
     // Where the statistics are true no wanted row is lost, whichever lawful rules took part.
     ensures selected { IfOk result (λ scan. AllByRecursion IsTruePart zones.now.parts
-        → scan.selected ≡ full predicate.now zones.now.parts) }
+        → scan.selected.items ≡ full predicate.now zones.now.parts) }
     // A part is skipped exactly if the falsifier is true of it, as in the scan of these parts by
     // the binders of their own statistics.
     ensures skipped { let own = ⟦<Rules as OwnRules>⟧.own rules.now in

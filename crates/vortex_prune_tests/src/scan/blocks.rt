@@ -77,7 +77,7 @@ fn rows_alone(
 
 // Whether a scan found these rows, and tested so many.
 fn found_rows(found: &Scan, rows: &[(usize, usize)], tested: usize) -> bool {
-    are_rows(&found.selected, rows) && found.evaluated == tested as u64
+    found.selected.as_slice() == rows && found.evaluated == tested as u64
 }
 
 // Whether the scan of the long part finds what its rows say by themselves.

@@ -1,6 +1,7 @@
 //! Rules and binders of a user that answer what they shouldn't or fault: which of two comes first,
 //! and who is asked at all.
 use super::*;
+use vortex_stats::{Precision, StatsSet};
 use vortex_testing::binders::Answerer;
 
 fn looks_of(alloc: Global, refused: StatsError) -> Result<String, StatsError> {
@@ -44,6 +45,27 @@ fn faults_of_rules_come_in_order(rt: HostRuntime) {
     expect_claims(&rt, alloc, (Claim::Nothing, open), "OpenProof");
     let memory = by_claims(alloc, Claim::Memory, Claim::Nothing);
     assert!(rt; matches!(memory, Err(StatsError::Memory(_))));
+}
+
+// Without parts nothing is bound, so that a proof is left open nowhere.
+#[test]
+fn a_bare_column_is_not_bound_without_parts(rt: HostRuntime) {
+    let (alloc, without) = (rt.alloc(), tabled(rt.alloc(), no_parts(rt.alloc())));
+    let bare = (Claim::Column(0), Claim::Column(0));
+    let rules = rules_that_claim(alloc, ScalarFnId::Binary, bare.0, bare.1).expect(&rt, "rules");
+    let found = scanned_by(alloc, &without, above(alloc, 10), &rules);
+    expect_found(&rt, found, &[], &[]);
+}
+
+// A number is refused by every scan and by pruning, also where there is no part.
+#[test]
+fn a_number_is_no_predicate_of_a_scan(rt: HostRuntime) {
+    let alloc = rt.alloc();
+    let found = scanned(alloc, &twenty(alloc), int(alloc, 7));
+    expect_refused(&rt, alloc, found, "NotPredicate");
+    let without = tabled(alloc, no_parts(alloc));
+    let found = scanned(alloc, &without, int(alloc, 7));
+    expect_refused(&rt, alloc, found, "NotPredicate");
 }
 
 // The scan of two numbers, of which the first part is skipped, by an open satisfier.
@@ -123,4 +145,18 @@ fn statistics_may_be_at_odds(rt: HostRuntime) {
     expect_found(&rt, scanned(alloc, &crossed, four), &[0], &[]);
     let others = not_eq(alloc, a(alloc), int(alloc, 4));
     expect_found(&rt, scanned(alloc, &crossed, others), &[], &[]);
+}
+
+// An entry without a value says nothing of the greatest one.
+#[test]
+fn an_absent_maximum_keeps_the_part(rt: HostRuntime) {
+    let alloc = rt.alloc();
+    let absent = StatsSet::of(alloc, Stat::Max, Precision::Absent);
+    let parts = table_of_numbers(alloc, &[Some(11)], Ok(absent));
+    expect_found(
+        &rt,
+        scanned(alloc, &parts, above(alloc, 10)),
+        &[],
+        &[(0, 0)],
+    );
 }

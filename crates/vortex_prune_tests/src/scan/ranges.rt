@@ -73,7 +73,8 @@ fn from_row_of(
         return Err(StatsError::OpenProof);
     }
     let rules = Rules::builtin(alloc);
-    scan_ranges_from(alloc, chunk, first, map, predicate, &rules)
+    let found = scan_ranges_from(alloc, chunk, first, map, predicate, &rules)?;
+    Ok(found.into_scan()?)
 }
 
 #[test]

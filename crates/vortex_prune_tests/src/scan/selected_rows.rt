@@ -14,15 +14,26 @@ fn selected(alloc: Global, rows: &[(usize, usize)]) -> Result<SelectedRows, Allo
     Ok(selected)
 }
 
-// Whether these rows are kept, and gone through in this order.
+// Whether these rows stand at their places.
+fn are_at_places(selected: &SelectedRows, rows: &[(usize, usize)]) -> bool {
+    for i in 0..rows.len() {
+        if selected.get(i) != Some(rows[i]) {
+            return false;
+        }
+    }
+    selected.len() == rows.len() && selected.is_empty() == rows.is_empty()
+}
+
+// Whether these rows are kept, are gone through in this order, and become pairs.
 fn are_kept(alloc: Global, rows: &[(usize, usize)]) -> Result<bool, AllocError> {
     let selected = selected(alloc, rows)?;
     let mut gone = Vec::new(alloc);
     for row in selected.iter() {
         gone.push(row)?;
     }
-    let is_empty = selected.is_empty() == rows.is_empty();
-    Ok(is_empty && are_rows(&selected, rows) && gone.as_slice() == rows)
+    let are_at_places = are_at_places(&selected, rows);
+    let pairs = selected.into_pairs()?;
+    Ok(are_at_places && gone.as_slice() == rows && pairs.as_slice() == rows)
 }
 
 #[test]

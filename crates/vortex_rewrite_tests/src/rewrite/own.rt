@@ -132,22 +132,44 @@ fn null_test(alloc: Global) -> Built {
     is_null(alloc, a(alloc))
 }
 
+// The built-in rules and two of a user's own.
+fn two_opposites(rt: &impl Abort, alloc: Global) -> Rules {
+    let mut rules = Rules::builtin(alloc);
+    for truth in [false, true] {
+        let rule = new_opposite(alloc, truth).expect(rt, "a rule");
+        rules.push(rule).expect(rt, "rules");
+    }
+    rules
+}
+
 #[test]
 fn proofs_of_two_rules_are_joined(rt: HostRuntime) {
     let alloc = rt.alloc();
-    let mut rules = Rules::builtin(alloc);
-    rules
-        .push(new_opposite(alloc, false).expect(&rt, "a rule"))
-        .expect(&rt, "rules");
-    rules
-        .push(new_opposite(alloc, true).expect(&rt, "a rule"))
-        .expect(&rt, "rules");
+    let rules = two_opposites(&rt, alloc);
     let either = or(alloc, truth(alloc, false), truth(alloc, true)).expect(&rt, "either");
     let not_true = not_true(alloc).expect(&rt, "a predicate");
     assert!(rt; falsify(alloc, &not_true, &rules).expect(&rt, "a falsifier") == Some(either));
     assert!(rt;
         satisfy(alloc, &not_true, &rules)
             .expect(&rt, "no satisfier")
+            .is_none()
+    );
+}
+
+fn not_false(alloc: Global) -> Built {
+    not(alloc, truth(alloc, false))
+}
+
+#[test]
+fn satisfiers_of_two_rules_are_joined(rt: HostRuntime) {
+    let alloc = rt.alloc();
+    let rules = two_opposites(&rt, alloc);
+    let either = or(alloc, truth(alloc, false), truth(alloc, true)).expect(&rt, "either");
+    let not_false = not_false(alloc).expect(&rt, "a predicate");
+    assert!(rt; satisfy(alloc, &not_false, &rules).expect(&rt, "a satisfier") == Some(either));
+    assert!(rt;
+        falsify(alloc, &not_false, &rules)
+            .expect(&rt, "no falsifier")
             .is_none()
     );
 }

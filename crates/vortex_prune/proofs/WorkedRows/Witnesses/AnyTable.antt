@@ -42,6 +42,26 @@ pub prune_by_whole_sound : IsWitness
     (λ (vs : List Verdict). EachRowOf true above_five kept (places_where is_whole vs)) (Whole ∷ [])
 prune_by_whole_sound = record { met = (refl, refl, refl, refl); refuted = λ h. true≢false (sym (h 0 rows kept_is_true (0, omega arith, refl) 1 (omega arith))) }
 
+-- ---- the same of pruning and of scans by ranges
+
+pub prune_skipped_sound : IsWitness (IsAskedOf above_five kept.scope × IsTrueRow kept 0 rows) (λ (skipped : List ℕ). EachRowOf false above_five kept skipped) (0 ∷ [])
+prune_skipped_sound = record { met = ((refl, refl), kept_is_true); refuted = λ h. true≢false (h 0 rows kept_is_true (0, omega arith, refl) 2 (omega arith)) }
+
+pub prune_whole_sound : IsWitness (IsAskedOf above_five kept.scope × IsTrueRow kept 0 rows) (λ (whole : List ℕ). EachRowOf true above_five kept whole) (0 ∷ [])
+prune_whole_sound = record { met = ((refl, refl), kept_is_true); refuted = λ h. true≢false (sym (h 0 rows kept_is_true (0, omega arith, refl) 1 (omega arith))) }
+
+pub scan_ranges_skipped_sound : IsWitness (IsAskedOf above_five kept.scope × IsTrueRow kept 0 rows) (λ (skipped : List ℕ). EachRowOf false above_five kept skipped) (0 ∷ [])
+scan_ranges_skipped_sound = prune_skipped_sound
+
+pub scan_ranges_whole_sound : IsWitness (IsAskedOf above_five kept.scope × IsTrueRow kept 0 rows) (λ (whole : List ℕ). EachRowOf true above_five kept whole) (0 ∷ [])
+scan_ranges_whole_sound = prune_whole_sound
+
+pub scan_ranges_from_skipped_sound : IsWitness (IsAskedOf above_five kept.scope × IsTrueRow kept 0 rows) (λ (skipped : List ℕ). EachRowOf false above_five kept skipped) (0 ∷ [])
+scan_ranges_from_skipped_sound = prune_skipped_sound
+
+pub scan_ranges_from_whole_sound : IsWitness (IsAskedOf above_five kept.scope × IsTrueRow kept 0 rows) (λ (whole : List ℕ). EachRowOf true above_five kept whole) (0 ∷ [])
+scan_ranges_from_whole_sound = prune_whole_sound
+
 pub prune_at_most : IsWitness (IsAskedOf above_ten scope × IsTrue (is_predicate above_ten)) (λ (e : StatsError). IsRefusal (most_causes [] above_ten kept.rows) e) OpenProof
 unfolding node reduce_balanced
 prune_at_most = record { met = (asked, refl); refuted = λ h. none_of nothing nothing shut shut h }

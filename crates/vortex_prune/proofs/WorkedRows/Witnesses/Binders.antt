@@ -1,20 +1,24 @@
 -- Witnesses of the clauses of binders, of binding and of parts.
-use Rattle.std.specs.Prelude.{◌≡◌, ℕ, false, true, IsOk, IsTrue, List, [], ◌∷◌, Option, Some, None, Result, Err, refl, slice_get}
+use Rattle.std.specs.Prelude.{◌≡◌, ℕ, false, true, IsOk, IsTrue, List, [], ◌∷◌, Option, Some, None, Result, Err, Ok, refl, slice_get}
 use Rattle.std.specs.List.{AllByRecursion}
 use Rattle.std.proofs.Common.{arith, inl, subst}
 use Rattle.vortex_base.specs.declared.aggregate.AggregateFnRef.TheVariants as aggregate
+use Rattle.vortex_base.specs.declared.dtype.DType.{DType}
+use Rattle.vortex_base.specs.declared.error.BaseError.{BaseError}
 use Rattle.vortex_base.specs.declared.scalar_value.ScalarValue.{ScalarValue}
 use Rattle.vortex_base.specs.Data.Columns.{row_of}
 use Rattle.vortex_base.specs.Data.Scalars.{Constant}
 use Rattle.vortex_expr.specs.Meanings.Fitting.{fits_row}
 use Rattle.vortex_expr.specs.Meanings.Meaning.{meaning}
-use Rattle.vortex_expr.specs.Trees.Tree.{Tree, Place, has_bare_column, stat}
+use Rattle.vortex_expr.specs.Meanings.Typing.{type_of}
+use Rattle.vortex_expr.specs.Trees.Tree.{Tree, Place, has_bare_column, has_placeholder, stat}
+use Rattle.vortex_prune.proofs.WorkedRows.ShutRows.{IsMissing, answers, by_literal, three}
 use Rattle.vortex_prune.proofs.WorkedRows.Witnesses.Parts.{a, all_true, are_parts, high, high_is_true, is_map, lit, low, low_is_in_its_zone, low_is_true, mixed, part, parts, their_map, zones}
-use Rattle.vortex_zone_map.proofs.WorkedRows.Witnesses.{IsWitness, known, num, scope}
+use Rattle.vortex_zone_map.proofs.WorkedRows.Witnesses.{IsWitness, i64_type, known, num, scope}
 use Rattle.vortex_prune.proofs.WorkedRows.Witnesses.Pruning.{shut}
 use Rattle.vortex_prune.proofs.WorkedRows.Witnesses.Scans.{is_faithful_over, value}
 use Rattle.vortex_prune.specs.Binding.Binders.{IsHonestOver}
-use Rattle.vortex_prune.specs.Binding.BoundTo.{HasNoColumnOn}
+use Rattle.vortex_prune.specs.Binding.BoundTo.{HasNoColumnOn, IsBinding, Replaces, WhereFaithful}
 use Rattle.vortex_prune.specs.Binding.PartAnswers.{part_values, told_values}
 use Rattle.vortex_prune.specs.Part.{AreParts, IsPartOf, IsTruePart, PartData, sets_fit, zone_of}
 use Rattle.vortex_zone_map.specs.Zone.{ScopedZone}
@@ -24,7 +28,8 @@ use Rattle.vortex_zone_map.specs.ZoneMaps.{IsMapOf, MapData, zone_map}
 use Rattle.vortex_rewrite.specs.Facts.{IsFact, meanings, size_of}
 use Rattle.vortex_rewrite.specs.Rewriting.Proof.{Assignment, value_under}
 use Rattle.vortex_stats.specs.declared.error.StatsError.{StatsError}
-use Rattle.vortex_stats.specs.declared.error.StatsError.TheVariants.{Mismatch}
+use Rattle.vortex_stats.specs.declared.error.BinderFault.TheVariants.{WrongType}
+use Rattle.vortex_stats.specs.declared.error.StatsError.TheVariants.{Binder, Mismatch}
 use Rattle.vortex_stats.specs.declared.stat.Stat.TheVariants.{Max}
 use mathlib.Core.Bool.{true≢false}
 
@@ -42,6 +47,24 @@ four_is_not_three h = cc
 
 pub bind_stats_value : IsWitness (IsTrue (is_faithful_over low [] 2) × HasNoColumnOn greatest []) (λ (r : Tree Place). meaning r [] 2 ≡ value_under (value low [] 2) 2 greatest) (lit 4)
 bind_stats_value = record { met = (refl, inl refl); refuted = four_is_not_three }
+
+abbrev typed : DType → Result DType BaseError
+typed t = Ok t
+
+a_is_not_three : a ≡ three → ⊥
+a_is_not_three h = absurd cc
+
+-- the answer to the placeholder is 3, and its column stands in its place
+pub bind_stats_bound : IsWitness (type_of greatest ≡ typed i64_type) (λ (r : Tree Place). IsBinding (Replaces (answers by_literal) (IsMissing by_literal)) greatest r) a
+bind_stats_bound = record { met = refl; refuted = λ h. a_is_not_three (h.0 i64_type refl) }
+
+-- a placeholder is left
+pub bind_stats_free : IsWitness (IsTrue (is_faithful_over low [] 2)) (λ (r : Tree Place). WhereFaithful (is_faithful_over low) (λ row n. has_placeholder r ≡ false)) greatest
+bind_stats_free = record { met = refl; refuted = λ h. true≢false (h [] 2 refl) }
+
+-- a binder that is faithful gave an answer of another type
+pub bind_stats_right_types : IsWitness (IsTrue (is_faithful_over low [] 2)) (λ (f : StatsError). WhereFaithful (is_faithful_over low) (λ row n. ¬ (f ≡ Binder WrongType))) (Binder WrongType)
+bind_stats_right_types = record { met = refl; refuted = λ h. h [] 2 refl refl }
 
 -- ---- binders: by the sets of another part 5 would be the least value, and 3 is there
 

@@ -1,5 +1,5 @@
 -- Witnesses of the clauses of pruning by a map of zones.
-use Rattle.std.specs.Prelude.{◌≡◌, ℕ, false, true, IsTrue, List, [], ◌∷◌, Option, Some, None, Result, Ok, Err, if◌then◌else◌, refl}
+use Rattle.std.specs.Prelude.{◌≡◌, ◌<◌, ℕ, false, length, slice_get, true, IsTrue, List, [], ◌∷◌, Option, Some, None, Result, Ok, Err, if◌then◌else◌, refl}
 use Rattle.std.proofs.Common.{arith, sym}
 use Rattle.vortex_base.specs.declared.scalar_value.ScalarValue.{ScalarValue}
 use Rattle.vortex_base.specs.declared.scalar_value.ScalarValue.TheVariants as value
@@ -12,14 +12,13 @@ use Rattle.vortex_expr.specs.Trees.Tree.{Tree, Place, binary, literal, is_plain,
 use Rattle.vortex_expr.specs.declared.scalar_fn.Operator.TheVariants.{Or}
 use Rattle.vortex_expr.specs.declared.scalar_fn.ScalarFnId.TheVariants as functions
 use Rattle.vortex_prune.proofs.WorkedRows.CauseRows.{none_of, nothing}
-use Rattle.vortex_prune.proofs.WorkedRows.PartRows.{turned_round}
-use Rattle.vortex_prune.proofs.WorkedRows.ShutRows.{neither}
-use Rattle.vortex_prune.proofs.WorkedRows.Witnesses.Parts.{a, above_ten, high, high_is_in_its_zone, high_is_true, is_map, mixed, their_map, zones}
+use Rattle.vortex_prune.proofs.WorkedRows.ShutRows.{last_is_whole, last_zone_kept, neither, open_satisfier, three_zones}
+use Rattle.vortex_prune.proofs.WorkedRows.Witnesses.Parts.{a, above_ten, high, high_is_in_its_zone, high_is_true, is_map, low, low_is_in_its_zone, low_is_true, mixed, their_map, zones}
 use Rattle.vortex_zone_map.proofs.WorkedRows.Witnesses.{IsWitness, i64_type, num, scope}
 use Rattle.vortex_prune.specs.Part.{zone_of}
 use Rattle.vortex_prune.specs.Scanning.Complete.{IsBoxIn, ZonesSkipExactly}
 use Rattle.vortex_prune.specs.Scanning.Selection.{is_skipped, is_whole, places_where}
-use Rattle.vortex_prune.specs.Scanning.ZoneScans.{IsSoundPruning, kept_zones, open_causes, pruning_causes, skipped_zones, whole_zones, zone_verdicts}
+use Rattle.vortex_prune.specs.Scanning.ZoneScans.{AreRowVerdicts, IsShutIfKept, IsShutIfVerdict, IsSoundPruning, kept_zones, open_causes, pruning_causes, skipped_zones, whole_zones, zone_verdicts}
 use Rattle.vortex_zone_map.specs.ZoneMaps.{IsMapOf}
 use Rattle.vortex_prune.specs.declared.scan.verdict.Verdict.{Verdict}
 use Rattle.vortex_prune.specs.declared.scan.verdict.Verdict.TheVariants.{Skipped, Whole, Tested}
@@ -94,14 +93,25 @@ own_rule_finds_one : skipped_zones (falsifier own_rules above_or_never) scope zo
 unfolding node reduce_balanced
 own_rule_finds_one = refl
 
+pub shut : false ≡ true → ⊥
+shut h = true≢false (sym h)
+
 -- ---- pruning
 
 pub none_for_one : (x : ℕ) → [] ≡ x ∷ [] → ⊥
 none_for_one x h = cc
 
--- a zone with rows that satisfy is skipped, and one without is whole
-pub prune_sound : IsWitness (IsAskedOf above_ten scope × IsMapOf zones their_map) (λ (found : Found). IsSoundPruning above_ten scope zones found.0 found.1) (2 ∷ [], 0 ∷ [])
-prune_sound = record { met = (asked, is_map); refuted = turned_round }
+-- a zone with rows that satisfy is skipped
+pub prune_sound : IsWitness (IsAskedOf above_ten scope × IsMapOf zones their_map) (λ (found : Found). IsSoundPruning above_ten scope zones found.0 found.1) (2 ∷ [], [])
+prune_sound = record { met = (asked, is_map); refuted = λ h. true≢false ((h 2 (zone_of high) high refl high_is_in_its_zone high_is_true).0 (0, omega arith, refl) 0 (omega arith)) }
+
+-- one without such rows is whole
+pub prune_sound_of_whole : IsWitness (IsAskedOf above_ten scope × IsMapOf zones their_map) (λ (found : Found). IsSoundPruning above_ten scope zones found.0 found.1) ([], 0 ∷ [])
+prune_sound_of_whole = record { met = (asked, is_map); refuted = λ h. shut ((h 0 (zone_of low) low refl low_is_in_its_zone low_is_true).1 (0, omega arith, refl) 0 (omega arith)) }
+
+-- a satisfier with a column outside its placeholders was bound for the third zone, which isn't skipped
+pub prune_kept_closed : IsWitness (IsAskedOf above_ten scope × (2 < length three_zones)) (λ (skipped : List ℕ). IsShutIfKept skipped open_satisfier three_zones) (0 ∷ 1 ∷ [])
+prune_kept_closed = record { met = (asked, omega arith); refuted = last_zone_kept }
 
 pub prune_skipped : IsWitness (IsAskedOf above_ten scope × IsMapOf zones their_map) (λ (skipped : List ℕ). skipped ≡ skipped_zones (falsifier [] above_ten) scope zones) []
 unfolding node reduce_balanced
@@ -146,9 +156,6 @@ answered_is_not_refused x e h = cc
 pub prune_not_predicate : IsWitness (IsAskedOf a scope × (is_predicate a ≡ false)) (λ (answer : Result Found StatsError). answer ≡ Err NotPredicate) (Ok ([], []))
 prune_not_predicate = record { met = (number_asked, refl); refuted = λ h. answered_is_not_refused ([], []) NotPredicate h }
 
-pub shut : false ≡ true → ⊥
-shut h = true≢false (sym h)
-
 pub prune_refusal : IsWitness (IsAskedOf above_ten scope × IsTrue (is_predicate above_ten) × IsMapOf zones their_map) (λ (e : StatsError). IsRefusal (pruning_causes [] above_ten scope zones) e) OpenProof
 unfolding node reduce_balanced
 prune_refusal = record { met = (asked, refl, is_map); refuted = λ h. none_of nothing nothing shut shut h }
@@ -162,15 +169,32 @@ pub prune_by_verdicts : IsWitness (IsMapOf zones their_map) (λ (vs : List Verdi
 unfolding node reduce_balanced
 prune_by_verdicts = record { met = is_map; refuted = λ h. tested_is_not_skipped (Tested ∷ Whole ∷ []) h }
 
+tested_alone : Tested ≡ Skipped → ⊥
+tested_alone h = cc
+
+-- the first row of the map's table skips its zone
+pub prune_by_rows : IsWitness (slice_get their_map.rows 0 ≡ Some 2) (λ (vs : List Verdict). AreRowVerdicts (falsifier [] above_ten) (satisfier [] above_ten) their_map vs) (Tested ∷ Tested ∷ Whole ∷ [])
+unfolding node reduce_balanced
+prune_by_rows = record { met = refl; refuted = λ h. tested_alone (h 0 2 Tested refl refl) }
+
+-- a satisfier with a column outside its placeholders was bound for the second zone, which isn't skipped
+pub prune_by_kept_closed : IsWitness (slice_get (Skipped ∷ Whole ∷ []) 1 ≡ Some Whole) (λ (vs : List Verdict). IsShutIfVerdict open_satisfier vs) (Skipped ∷ Whole ∷ [])
+prune_by_kept_closed = record { met = refl; refuted = last_is_whole }
+
 -- by the proofs that the rule of a user takes part in
-pub prune_by_sound : IsWitness
-    (IsMapOf zones their_map × IsTrue (is_predicate above_or_never) × IsTrue (is_plain above_or_never) × IsTrue (fits_scope above_or_never scope)
-    × (falsifier own_rules above_or_never ≡ falsifier own_rules above_or_never) × (satisfier own_rules above_or_never ≡ satisfier own_rules above_or_never))
-    (λ (vs : List Verdict). IsSoundPruning above_or_never scope zones (places_where is_skipped vs) (places_where is_whole vs)) (Whole ∷ Tested ∷ Skipped ∷ [])
-prune_by_sound = record {
-  met = (is_map, refl, refl, refl, refl, refl);
-  refuted = λ h. true≢false ((h 2 (zone_of high) high refl high_is_in_its_zone high_is_true).0 (0, omega arith, refl) 0 (omega arith));
-}
+abbrev AreProofs : Type 0
+AreProofs =
+    IsTrue (is_predicate above_or_never) × IsTrue (is_plain above_or_never) × IsTrue (fits_scope above_or_never scope)
+    × (falsifier own_rules above_or_never ≡ falsifier own_rules above_or_never) × (satisfier own_rules above_or_never ≡ satisfier own_rules above_or_never)
+
+are_proofs : AreProofs
+are_proofs = (refl, refl, refl, refl, refl)
+
+pub prune_by_sound : IsWitness (IsMapOf zones their_map × AreProofs) (λ (vs : List Verdict). IsSoundPruning above_or_never scope zones (places_where is_skipped vs) (places_where is_whole vs)) (Tested ∷ Tested ∷ Skipped ∷ [])
+prune_by_sound = record { met = (is_map, are_proofs); refuted = λ h. true≢false ((h 2 (zone_of high) high refl high_is_in_its_zone high_is_true).0 (0, omega arith, refl) 0 (omega arith)) }
+
+pub prune_by_sound_of_whole : IsWitness (IsMapOf zones their_map × AreProofs) (λ (vs : List Verdict). IsSoundPruning above_or_never scope zones (places_where is_skipped vs) (places_where is_whole vs)) (Whole ∷ Tested ∷ Tested ∷ [])
+prune_by_sound_of_whole = record { met = (is_map, are_proofs); refuted = λ h. shut ((h 0 (zone_of low) low refl low_is_in_its_zone low_is_true).1 (0, omega arith, refl) 0 (omega arith)) }
 
 pub prune_by_complete : IsWitness
     (IsMapOf zones their_map × IsTrue (is_predicate above_ten) × IsTrue (fits_scope above_ten scope) × (falsifier [] above_ten ≡ falsifier [] above_ten) × IsTrue (has_disjoint_ands above_ten))

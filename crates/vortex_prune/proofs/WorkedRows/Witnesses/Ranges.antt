@@ -1,18 +1,19 @@
 -- Witnesses of the clauses of scans by ranges of a chunk.
-use Rattle.std.specs.Prelude.{◌≡◌, ◌+◌, ℕ, false, IsTrue, List, [], ◌∷◌, Option, Some, None, Result, Ok, Err, refl}
+use Rattle.std.specs.Prelude.{◌≡◌, ◌+◌, ◌<◌, ℕ, false, IsTrue, List, [], ◌∷◌, Option, Some, None, Result, Ok, Err, length, refl}
 use Rattle.std.specs.List.{AllByRecursion}
 use Rattle.std.proofs.Common.{arith}
 use Rattle.vortex_base.specs.declared.scalar_value.ScalarValue.{ScalarValue}
 use Rattle.vortex_base.specs.Data.Columns.{ChunkData, row_of}
 use Rattle.vortex_prune.proofs.WorkedRows.CauseRows.{none_of, nothing}
+use Rattle.vortex_prune.proofs.WorkedRows.ShutRows.{open_satisfier, three_zones}
 use Rattle.vortex_prune.proofs.WorkedRows.Witnesses.Parts.{a, above_ten, all_true, are_parts, below_two, have_scope, high, is_map, low, mixed, parts, their_map, zones}
 use Rattle.vortex_zone_map.proofs.WorkedRows.Witnesses.{IsWitness, i64_type, num, scope}
-use Rattle.vortex_prune.proofs.WorkedRows.Witnesses.Pruning.{IsAskedOf, answered_is_not_refused, asked, built_in, mixed_is_not_skipped, none_for_one, number_asked, open_is_not_memory, shut}
+use Rattle.vortex_prune.proofs.WorkedRows.Witnesses.Pruning.{IsAskedOf, answered_is_not_refused, asked, built_in, mixed_is_not_skipped, none_for_one, number_asked, open_is_not_memory, prune_kept_closed, shut}
 use Rattle.vortex_prune.specs.Part.{IsTruePart, PartData}
 use Rattle.vortex_prune.specs.Scanning.Complete.{ZonesSkipExactly}
 use Rattle.vortex_prune.specs.Scanning.RangeScans.{AreRanges, AreRangesBehind, AreRangesFrom, has_ranges, has_ranges_from, rows_in_chunk, selected_from, tested_ranges}
 use Rattle.vortex_prune.specs.Scanning.Selection.{full, satisfying, selected_rows}
-use Rattle.vortex_prune.specs.Scanning.ZoneScans.{pruning_causes, skipped_zones, statistics_answers, whole_zones}
+use Rattle.vortex_prune.specs.Scanning.ZoneScans.{IsShutIfKept, pruning_causes, skipped_zones, statistics_answers, whole_zones}
 use Rattle.vortex_zone_map.specs.ZoneMaps.{IsMapOf}
 use Rattle.vortex_rewrite.specs.Answers.{IsMemory}
 use Rattle.vortex_rewrite.specs.Causes.{IsRefusal}
@@ -122,7 +123,13 @@ pub scan_ranges_refusal : IsWitness (IsAskedOf above_ten scope × IsTrue (has_ra
 unfolding node reduce_balanced
 scan_ranges_refusal = record { met = (asked, refl, refl, is_map); refuted = λ h. none_of nothing nothing shut shut h }
 
+pub scan_ranges_kept_closed : IsWitness (IsAskedOf above_ten scope × (2 < length three_zones)) (λ (skipped : List ℕ). IsShutIfKept skipped open_satisfier three_zones) (0 ∷ 1 ∷ [])
+scan_ranges_kept_closed = prune_kept_closed
+
 -- ---- its rows from one on
+
+pub scan_ranges_from_kept_closed : IsWitness (IsAskedOf above_ten scope × (2 < length three_zones)) (λ (skipped : List ℕ). IsShutIfKept skipped open_satisfier three_zones) (0 ∷ 1 ∷ [])
+scan_ranges_from_kept_closed = prune_kept_closed
 
 pub scan_ranges_from_full : IsWitness (IsAskedOf above_ten scope × AreRangesBehind eight_rows 1 their_map parts × AllByRecursion IsTruePart parts) (λ (selected : Rows). selected ≡ full above_ten parts) lossy
 scan_ranges_from_full = record { met = (asked, are_ranges_behind, all_true); refuted = lossy_is_not_all }

@@ -1,6 +1,7 @@
 -- Witnesses of the clauses of scans of parts, by a binder for each and by their map.
-use Rattle.std.specs.Prelude.{◌≡◌, ◌-◌, ◌^◌, ℕ, All, Bool, false, true, IsTrue, List, [], ◌∷◌, Result, Ok, Err, length, min, refl}
+use Rattle.std.specs.Prelude.{◌≡◌, ◌-◌, ◌<◌, ◌^◌, ℕ, All, Bool, false, true, IsTrue, List, [], ◌∷◌, Result, Ok, Err, Some, length, min, refl, slice_get}
 use Rattle.std.specs.List.{AllByRecursion}
+use Rattle.std.proofs.Common.{arith}
 use Rattle.std.proofs.lemmas.List.Elements.{All-from_recursion}
 use Rattle.vortex_base.specs.Data.Scalars.{Constant}
 use Rattle.vortex_expr.specs.Meanings.Fitting.{fits_scope}
@@ -8,17 +9,20 @@ use Rattle.vortex_expr.specs.Trees.Tree.{Tree, Place, is_plain}
 use Rattle.vortex_prune.proofs.Honesty.StatisticsBinders.{by_statistics, statistics_faithful, statistics_honest, statistics_quiet}
 use Rattle.vortex_prune.proofs.Scanning.WholeScan.{parts_by_recursion}
 use Rattle.vortex_prune.proofs.WorkedRows.CauseRows.{none_named, none_of, nothing}
-use Rattle.vortex_prune.proofs.WorkedRows.Witnesses.Parts.{a, above_ten, all_true, are_parts, parts}
+use Rattle.vortex_prune.proofs.WorkedRows.ShutRows.{Fixed, IsMissing, answers, by_column, by_literal, greatest, last_is_kept, last_is_open, open_satisfier, three_zones}
+use Rattle.vortex_prune.proofs.WorkedRows.Witnesses.Parts.{a, above_ten, all_true, are_parts, high, low, parts, zones}
 use Rattle.vortex_zone_map.proofs.WorkedRows.Witnesses.{IsWitness, scope}
-use Rattle.vortex_prune.proofs.WorkedRows.Witnesses.Pruning.{IsAskedOf, answered_is_not_refused, asked, built_in, mixed_is_not_skipped, none_for_one, number_asked, open_is_not_memory, shut}
+use Rattle.vortex_prune.proofs.WorkedRows.Witnesses.Pruning.{IsAskedOf, answered_is_not_refused, asked, built_in, mixed_is_not_skipped, none_for_one, number_asked, open_is_not_memory, prune_kept_closed, shut}
 use Rattle.vortex_prune.proofs.WorkedRows.Witnesses.Ranges.{Rows, lossy, lossy_is_not_all, six_are_not_two}
 use Rattle.vortex_prune.specs.Binding.PartAnswers.{part_values}
 use Rattle.vortex_prune.specs.Binding.PartBinder.{IsNullOf, part_answer}
-use Rattle.vortex_prune.specs.Part.{IsTruePart, PartData}
+use Rattle.vortex_prune.specs.Part.{AreParts, IsTruePart, PartData, zone_of}
 use Rattle.vortex_prune.specs.Scanning.Complete.{SkipsExactly}
-use Rattle.vortex_prune.specs.Scanning.ScanRefusals.{faithful_causes, scan_causes}
+use Rattle.vortex_prune.specs.Scanning.ScanRefusals.{AreClosed, KeptAreClosed, faithful_causes, scan_causes}
 use Rattle.vortex_prune.specs.Scanning.Selection.{AreByStatistics, AreFaithful, AreHonest, answered, any_binder, full, selected_rows, skipped_parts, tested_rows, whole_parts}
-use Rattle.vortex_prune.specs.Scanning.ZoneScans.{zone_causes}
+use Rattle.vortex_prune.specs.Scanning.ZoneScans.{IsShutIfKept, zone_causes}
+use Rattle.vortex_zone_map.specs.Zone.{AreZonesOf}
+use Rattle.vortex_zone_map.specs.ZoneMaps.{MapData, zone_map}
 use Rattle.vortex_rewrite.specs.Answers.{IsMemory}
 use Rattle.vortex_rewrite.specs.Causes.{Causes, IsRefusal}
 use Rattle.vortex_rewrite.specs.Rewriting.Falsifiers.{falsifier, node, reduce_balanced, satisfier}
@@ -104,7 +108,36 @@ pub scan_faithful : IsWitness (IsScanOf above_ten × IsTrue (is_predicate above_
 unfolding node reduce_balanced
 scan_faithful = record { met = (scanned, refl, faithful); refuted = λ h. none_of nothing nothing (λ f. shut f.0) (λ s. shut s.0) h }
 
+-- the last binder has bound the falsifier to an open expression
+pub scan_closed : IsWitness (IsScanOf above_ten × (1 < length (by_literal ∷ by_column ∷ []))) (λ (binders : List Fixed). AreClosed answers IsMissing greatest binders) (by_literal ∷ by_column ∷ [])
+scan_closed = record { met = (scanned, omega arith); refuted = last_is_open }
+
+-- a binder of a part that isn't skipped has bound the satisfier to an open expression
+pub scan_kept_closed : IsWitness (IsScanOf above_ten × (slice_get (by_literal ∷ by_column ∷ []) 1 ≡ Some by_column)) (λ (skipped : List ℕ). KeptAreClosed answers IsMissing skipped greatest (by_literal ∷ by_column ∷ []))
+    (0 ∷ [])
+scan_kept_closed = record { met = (scanned, refl); refuted = last_is_kept }
+
+-- it has no set for its only column
+abbrev without_set : PartData
+without_set = record { chunk = low.chunk; stats = [] }
+
+last_is_no_part : AreParts (low ∷ without_set ∷ []) → ⊥
+last_is_no_part h = shut (h 1 without_set refl).1
+
+pub scan_are_parts : IsWitness (IsScanOf above_ten × (slice_get parts 2 ≡ Some high)) (λ (looked_at : List PartData). AreParts looked_at) (low ∷ without_set ∷ [])
+scan_are_parts = record { met = (scanned, refl); refuted = last_is_no_part }
+
+pub zones_are_parts : IsWitness (slice_get parts 2 ≡ Some high) (λ (kept : List PartData). AreParts kept) (low ∷ without_set ∷ [])
+zones_are_parts = record { met = refl; refuted = last_is_no_part }
+
+-- the map is of a scope without columns
+pub zones_map_are_zones : IsWitness (slice_get zones 0 ≡ Some (zone_of low)) (λ (made : MapData). AreZonesOf made.scope zones) (zone_map [] [])
+zones_map_are_zones = record { met = refl; refuted = λ h. shut (h 0 (zone_of low) refl) }
+
 -- ---- by their map
+
+pub scan_zones_kept_closed : IsWitness (IsAskedOf above_ten scope × (2 < length three_zones)) (λ (skipped : List ℕ). IsShutIfKept skipped open_satisfier three_zones) (0 ∷ 1 ∷ [])
+scan_zones_kept_closed = prune_kept_closed
 
 pub scan_zones_selected : IsWitness (IsAskedOf above_ten scope × AllByRecursion IsTruePart parts) (λ (selected : Rows). selected ≡ full above_ten parts) lossy
 scan_zones_selected = record { met = (asked, all_true); refuted = lossy_is_not_all }

@@ -1,9 +1,11 @@
-use Rattle.std.proofs.Common.{ap, arith, inr, length, refl, ◌-◌, ◌^◌, ◌∙◌}
+use Rattle.std.proofs.Common.{List, ℕ, ap, arith, inr, length, refl, subst, sym, ◌-◌, ◌^◌, ◌∙◌}
 use Rattle.std.specs.Prelude.{min}
 use Rattle.std.proofs.lemmas.Option.{slice_get_read}
 use Rattle.std.proofs.lemmas.Result.{err_from_is_err_and}
 use Rattle.vortex_prune.proofs.Scanning.PartScanLemmas.{all_answered, same_again, selected_next, skipped_next, tested_next, told_all, told_more, whole_next}
 use Rattle.vortex_prune.proofs.Scanning.ScanLemmas.{all_below, below_more}
+use Rattle.vortex_prune.specs.Scanning.Found.{Found}
+use Rattle.vortex_prune.specs.Scanning.PartScans.{AreTold}
 use Rattle.vortex_prune.specs.Scanning.Selection.{selected_rows, skipped_parts, tested_rows, whole_parts}
 use Rattle.vortex_prune.proofs.scan.part_scan.scan_parts.Goals as goal
 
@@ -35,15 +37,20 @@ loop-place-preserved g c =
 pub returns-clause-found : goal.returns-clause-found
 returns-clause-found g c = λ f s answers told.
     let all = all_answered (g.T.PartTest.tells c.args.test.now) c.args.parts.now f s answers c.loop-place.place told (omega (arith, c.loop-place-test.false)) in
+    let same = c.in_ok-into_scan.ensures in
     record {
-      skipped = c.loop-place.invariant.skipped f s answers told ∙ ap (skipped_parts f) all;
-      whole = c.loop-place.invariant.whole f s answers told ∙ ap (whole_parts f s) all;
-      kept = c.loop-place.invariant.selected f s answers told ∙ ap (selected_rows f s c.args.predicate.now) all;
-      evaluated = c.loop-place.invariant.evaluated f s answers told ∙ ap (λ l. min (tested_rows f s l) (2 ^ 64 - 1)) all;
+      skipped = ap (λ (o : Found). o.skipped) same ∙ c.loop-place.invariant.skipped f s answers told ∙ ap (skipped_parts f) all;
+      whole = ap (λ (o : Found). o.whole) same ∙ c.loop-place.invariant.whole f s answers told ∙ ap (whole_parts f s) all;
+      kept = ap (λ (o : Found). o.selected) same ∙ c.loop-place.invariant.selected f s answers told ∙ ap (selected_rows f s c.args.predicate.now) all;
+      evaluated = ap (λ (o : Found). o.evaluated) same ∙ c.loop-place.invariant.evaluated f s answers told ∙ ap (λ l. min (tested_rows f s l) (2 ^ 64 - 1)) all;
     }
 
 pub returns-clause-told : goal.returns-clause-told
-returns-clause-told g c = told_all (g.T.PartTest.tells c.args.test.now) c.args.parts.now c.loop-place.place _ (omega (arith, c.loop-place-test.false)) c.loop-place.invariant.told
+returns-clause-told g c =
+    let tells = g.T.PartTest.tells c.args.test.now in
+    let P : List ℕ → Type 0 = AreTold tells c.args.parts.now in
+    subst P (sym (ap (λ (o : Found). o.skipped) c.in_ok-into_scan.ensures))
+    (told_all tells c.args.parts.now c.loop-place.place _ (omega (arith, c.loop-place-test.false)) c.loop-place.invariant.told)
 
 pub returns-clause-parts : goal.returns-clause-parts
 returns-clause-parts g c = all_below c.loop-place.place c.args.parts.now (omega (arith, c.loop-place-test.false)) c.loop-place.invariant.parts

@@ -5,6 +5,7 @@ use Rattle.vortex_prune.proofs.Scanning.PartPromises.{err_same}
 use Rattle.vortex_prune.proofs.Scanning.RangeParts.{kept_by, ranges_are_full, same_scope_from}
 use Rattle.vortex_prune.proofs.Scanning.RangePromises.{by_verdicts, no_ranges, no_verdicts, of_four, scans_ranges}
 use Rattle.vortex_prune.proofs.ZoneMaps.ZonePruned.{pruning_is_complete, skipped_listed}
+use Rattle.vortex_prune.specs.Scanning.Found.{found_in}
 use Rattle.vortex_prune.specs.Scanning.Selection.{is_skipped, places_where}
 use Rattle.vortex_prune.specs.Scanning.ZoneScans.{skipped_zones}
 use Rattle.vortex_prune.specs.Zones.{zones_of}
@@ -51,7 +52,7 @@ returns-clause-answered g c =
     of_four c.scan_counts.result _ _ _ _ _
     (λ scan skipped whole selected evaluated.
     scans_ranges own c.args.predicate.now c.args.chunk.now c.args.first m c.has_table.ensures c.requires.plain c.requires.fits has c.in_ok-verdicts.verdicts.items told.rows told.verdicts told.long told.predicate told.closed told.kept_closed
-    c.deref.result.now c.counts.result.now scan c.deref.ensures.value c.counts.ensures skipped whole selected evaluated)
+    c.deref.result.now c.counts.result.now (found_in scan) c.deref.ensures.value c.counts.ensures skipped whole selected evaluated)
     c.scan_counts.ensures.skipped c.scan_counts.ensures.whole c.scan_counts.ensures.selected c.scan_counts.ensures.evaluated
 
 pub returns-clause-refused : goal.returns-clause-refused

@@ -13,4 +13,5 @@ runs-preserved c =
       selected =
           block_added (is_true_in c.args.predicate.now r.chunk.now.columns r.first r.rows) c.args.place from (to - from) to
           c.select_block.new.selected c.args.selected.now c.runs.selected (omega (arith, c.block_end-to.ensures.after)) c.runs.invariant.selected c.in_ok-select_block.ensures.selected;
+      evaluated = rw c.in_ok-select_block.ensures.evaluated (rw c.runs.invariant.evaluated (omega (arith, c.block_end-to.ensures.after, c.block_end-to.ensures.within)));
     }
