@@ -42,6 +42,7 @@ use Rattle.vortex_capi.specs.declared.table.Source.{Source}
 use Rattle.vortex_capi.specs.Prunes.{Asked, FindsNoFewer, IsComplete, IsNoFewer, IsPruned, IsRefused, IsSound, IsWellAsked, answer_by, answered, answers_of, asked, asked_of, proofs_of, table_answers, with_flags, with_places, zones_asked}
 use Rattle.vortex_capi.specs.Refusals.{Answers, followed}
 use Rattle.vortex_capi.specs.Scopes.{AnswersText, IsRefusedText, max_depth, predicate_given, scope_given}
+use Rattle.vortex_capi.specs.declared.logical.Kinds.TheVariants.{Plain}
 use Rattle.vortex_capi.specs.Statuses.{nowhere, status_number}
 use Rattle.vortex_capi.specs.Tables.{zones_given}
 use Rattle.vortex_capi.proofs.ReadLemmas.{followed_read}
@@ -249,14 +250,14 @@ text_asked asked r h = elim h [
 pub asked_refused : (asked : Result Asked Refusal) (r : Refusal) → (r.status ≢ NoMemory → IsRefusedText (followed asked (λ a. Ok (answers_of a))) r) → status_number r.status ≢ 4 → IsRefused asked (status_number r.status) r.fault
 asked_refused asked r h four = text_asked asked r (h (not_four r.status four))
 
-pub asked_is : (fields : List Field) (rows : List ℕ) (stats : List Statistic) (text : List ℕ) (flags room : ℕ) (scope : List Named) (p : Tree Place) → with_flags flags ≡ Ok tt → room ≡ length rows → scope_given fields ≡ Ok scope
+pub asked_is : (fields : List Field) (rows : List ℕ) (stats : List Statistic) (text : List ℕ) (flags room : ℕ) (scope : List Named) (p : Tree Place) → with_flags flags ≡ Ok tt → room ≡ length rows → scope_given Plain fields ≡ Ok scope
     → predicate_given scope text ≡ Ok p → asked fields rows stats text flags room ≡ asked_of scope rows stats p (halved p)
 asked_is fields rows stats text flags room scope p flag long is given =
     let last = λ (s : List Named). followed (predicate_given s text) (λ e. asked_of s rows stats e (halved e)) in
-    let third = λ (u : Unit {0}). followed (scope_given fields) last in
+    let third = λ (u : Unit {0}). followed (scope_given Plain fields) last in
     let second = λ (u : Unit {0}). followed (with_places room rows) third in
     let there : with_places room rows ≡ Ok tt = ap (λ b. if b then Ok tt else Err (nowhere BadLength)) (eq-eqb room (length rows) long) in
-    followed_read (with_flags flags) second tt flag ∙ followed_read (with_places room rows) third tt there ∙ followed_read (scope_given fields) last scope is ∙ followed_read (predicate_given scope text) (λ e. asked_of scope rows stats e (halved e)) p given
+    followed_read (with_flags flags) second tt flag ∙ followed_read (with_places room rows) third tt there ∙ followed_read (scope_given Plain fields) last scope is ∙ followed_read (predicate_given scope text) (λ e. asked_of scope rows stats e (halved e)) p given
 
 -- what is answered without a text is answered with one
 pub text_answers : {X Y : Type 0} (view : X → Y) (r : Result X Refusal) (read : Result Y Refusal) → Answers view r read → AnswersText view r read

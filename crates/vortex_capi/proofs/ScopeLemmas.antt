@@ -1,10 +1,10 @@
 -- A scope that was given is one, and the predicate is one over it.
 use Rattle.std.proofs.Common.{◌≡◌, ◌<◌, ◌+◌, add-one, ◌==◌, ◌++◌, ◌∷◌, [], ◌∙◌, ◌≤◌, ℕ, zero, suc, Bool, true, false, if◌then◌else◌, List, Option, None, Some, Result, Ok, Err, inl, inr, length, refl, ap, subst, sym, slice_get, nat_le}
-use Rattle.std.specs.Prelude.{String}
+use Rattle.std.specs.Prelude.{String, is_some}
 use Rattle.std.specs.declared.alloc.Global.{Global}
 use Rattle.std.specs.List.{list_any}
 use Rattle.std.specs.Str.{is_utf8}
-use Rattle.vortex_base.specs.Data.Scopes.{IsScope, Named, has_duplicate, is_empty, is_state_column, named_columns}
+use Rattle.vortex_base.specs.Data.Scopes.{IsScope, Named, has_duplicate, is_empty, is_state_column, named_columns, place_of}
 use Rattle.vortex_expr.specs.Meanings.Fitting.{fits_scope}
 use Rattle.vortex_expr.specs.Trees.Tree.{Place, Tree, is_plain}
 use Rattle.vortex_base.specs.declared.dtype.DType.{DType}
@@ -22,15 +22,19 @@ use Rattle.vortex_capi.specs.declared.nested.error.NestedError.TheVariants as ne
 use Rattle.vortex_capi.specs.declared.fault.Refusal.{Refusal}
 use Rattle.vortex_syntax.proofs.Fitting.ExpressionFits.{expression_fits, step_of}
 use Rattle.vortex_syntax.proofs.Fitting.ScopeFits.{distinct_more, storable_more}
-use Rattle.vortex_syntax.specs.Names.{is_new}
+use Rattle.vortex_syntax.specs.Names.{is_name, is_new}
 use Rattle.vortex_syntax.specs.Fails.{when}
 use Rattle.vortex_capi.specs.declared.field.Field.{Field}
+use Rattle.vortex_capi.specs.declared.logical.Kinds.{Kinds}
+use Rattle.vortex_capi.specs.declared.logical.Kinds.TheVariants.{Logical, Plain}
+use Rattle.vortex_capi.specs.LogicalKinds.{logical_of}
+use Rattle.vortex_logical.specs.declared.logical_type.LogicalType.{LogicalType}
 use Rattle.vortex_capi.specs.declared.status.Status.{Status}
 use Rattle.vortex_capi.specs.declared.status.Status.TheVariants.{BadName, NotAPredicate, TooDeep}
 use Rattle.vortex_capi.specs.Refusals.{placed, stepped}
-use Rattle.vortex_capi.specs.Scopes.{IsNested, IsPredicateGiven, IsRefusedText, expression_in, if_predicate, max_depth, next_field, predicate_given, scope_given, shallow, with_field, with_field_or, with_typed}
+use Rattle.vortex_capi.specs.Scopes.{IsNested, IsPredicateGiven, IsRefusedText, expression_in, if_predicate, max_depth, next_field, dtype_by, field_dtype, predicate_given, scope_given, shallow, taken, with_field, with_field_or, with_typed}
 use Rattle.vortex_capi.specs.Statuses.{at_column, nowhere, status_of_nested}
-use Rattle.vortex_capi.specs.Types.{dtype_of, kind_of, nullability_of, ok_or_bad_kind, typed}
+use Rattle.vortex_capi.specs.Types.{kind_of, nullability_of, ok_or_bad_kind, typed}
 use Rattle.vortex_capi.proofs.ReadLemmas.{followed_from, steps_stop}
 
 -- ---- types of kinds are those of columns
@@ -46,7 +50,9 @@ kind_storable : (name : List ℕ) (k : ℕ) (n : Nullability) (t : DType) → ki
 kind_storable name k n t h =
     by_kind name t _ _ (k == 0) h refl (λ h. by_kind name t _ _ (k == 1) h refl (λ h. by_kind name t _ _ (k == 2) h refl (λ h. by_kind name t _ _ (k == 3) h refl (λ h.
     by_kind name t _ _ (k == 4) h refl (λ h. by_kind name t _ _ (k == 5) h refl (λ h. by_kind name t _ _ (k == 6) h refl (λ h. by_kind name t _ _ (k == 7) h refl (λ h.
-    by_kind name t _ _ (k == 8) h refl (λ h. by_kind name t _ _ (k == 9) h refl (λ h. by_kind name t _ _ (k == 10) h refl (λ h. by_kind name t _ _ (k == 11) h refl (λ h. absurd cc))))))))))))
+    by_kind name t _ _ (k == 8) h refl (λ h. by_kind name t _ _ (k == 9) h refl (λ h. by_kind name t _ _ (k == 10) h refl (λ h. by_kind name t _ _ (k == 11) h refl (λ h.
+    by_kind name t _ _ (k == 12) h refl (λ h. by_kind name t _ _ (k == 13) h refl (λ h. by_kind name t _ _ (k == 14) h refl (λ h. by_kind name t _ _ (k == 15) h refl (λ h.
+    by_kind name t _ _ (k == 16) h refl (λ h. absurd cc)))))))))))))))))
 
 ok_storable : (name : List ℕ) (o : Option DType) (t : DType) → ok_or_bad_kind o ≡ Ok t → (o ≡ Some t → IsStorable name t) → IsStorable name t
 ok_storable name None t h more = absurd cc
@@ -55,6 +61,15 @@ ok_storable name (Some u) t h more = more (let same : u ≡ t = cc in ap Some sa
 typed_storable : (name : List ℕ) (k : ℕ) (o : Option Nullability) (t : DType) → typed k o ≡ Ok t → IsStorable name t
 typed_storable name k None t h = absurd cc
 typed_storable name k (Some n) t h = ok_storable name (kind_of k n) t h (kind_storable name k n t)
+
+taken_storable : (name : List ℕ) (k : Kinds) (f : Field) (o : Option LogicalType) (t : DType) → taken k f o ≡ Ok t → IsStorable name t
+taken_storable name Plain f (Some l) t h = absurd cc
+taken_storable name Plain f None t h = typed_storable name f.kind (nullability_of f.nullable) t h
+taken_storable name Logical f o t h = typed_storable name f.kind (nullability_of f.nullable) t h
+
+told_storable : (name : List ℕ) (k : Kinds) (f : Field) (r : Result (Option LogicalType) Status) (t : DType) → dtype_by k f r ≡ Ok t → IsStorable name t
+told_storable name k f (Err s) t h = absurd cc
+told_storable name k f (Ok o) t h = taken_storable name k f o t h
 
 -- ---- the scope
 
@@ -76,25 +91,34 @@ unplaced : (r : Result (List Named) Status) (more : List Named) (i : ℕ) → pl
 unplaced (Ok scope) more i h = let same : scope ≡ more = cc in ap Ok same
 unplaced (Err s) more i h = absurd cc
 
-field_column : (scope more : List Named) (o : Option Field) (i : ℕ) → placed (λ s. at_column s i) (with_field_or scope o) ≡ Ok more → IsAlmostScope scope → IsAlmostScope more
-field_column scope more None i h so = absurd cc
-field_column scope more (Some f) i h so = typed_column scope more f.name.now (dtype_of f.kind f.nullable) (unplaced (with_field scope f) more i h) (typed_storable f.name.now f.kind (nullability_of f.nullable)) so
+field_column : (k : Kinds) (scope more : List Named) (o : Option Field) (i : ℕ) → placed (λ s. at_column s i) (with_field_or k scope o) ≡ Ok more → IsAlmostScope scope → IsAlmostScope more
+field_column k scope more None i h so = absurd cc
+field_column k scope more (Some f) i h so = typed_column scope more f.name.now (field_dtype k f) (unplaced (with_field k scope f) more i h) (told_storable f.name.now k f (logical_of f)) so
 
-steps_are_scope : (fields : List Field) (n : ℕ) (scope : List Named) → stepped (next_field fields) [] n ≡ Ok scope → IsAlmostScope scope
-steps_are_scope fields zero scope h = let same : [] ≡ scope = cc in subst IsAlmostScope same (refl, refl)
-steps_are_scope fields (suc n) scope h =
-    let f = followed_from (stepped (next_field fields) [] n) (next_field fields n) scope h in
-    field_column f.at scope (slice_get fields n) n f.then (steps_are_scope fields n f.at f.made)
+steps_are_scope : (k : Kinds) (fields : List Field) (n : ℕ) (scope : List Named) → stepped (next_field k fields) [] n ≡ Ok scope → IsAlmostScope scope
+steps_are_scope k fields zero scope h = let same : [] ≡ scope = cc in subst IsAlmostScope same (refl, refl)
+steps_are_scope k fields (suc n) scope h =
+    let f = followed_from (stepped (next_field k fields) [] n) (next_field k fields n) scope h in
+    field_column k f.at scope (slice_get fields n) n f.then (steps_are_scope k fields n f.at f.made)
 
 -- the columns that were given make a scope, if there is one
-pub given_is_scope : (fields : List Field) (scope : List Named) → scope_given fields ≡ Ok scope → is_empty scope ≡ false → IsScope scope
-given_is_scope fields scope h some =
-    let so = steps_are_scope fields (length fields) scope h in
+pub given_is_scope : (k : Kinds) (fields : List Field) (scope : List Named) → scope_given k fields ≡ Ok scope → is_empty scope ≡ false → IsScope scope
+given_is_scope k fields scope h some =
+    let so = steps_are_scope k fields (length fields) scope h in
     rw (some, so.0, so.1) refl
 
 pub some_columns : (cs : List (String Global × DType)) → (length cs == 0) ≡ false → is_empty (named_columns cs) ≡ false
 some_columns [] h = cc
 some_columns (c ∷ cs) h = refl
+
+-- a new name is that of no column
+unnamed : (o : Option ℕ) (b : Bool) → (if b then (if is_some o then false else true) else false) ≡ true → o ≡ None
+unnamed None true h = refl
+unnamed (Some i) true h = absurd cc
+unnamed o false h = absurd cc
+
+pub new_is_unnamed : (scope : List Named) (name : List ℕ) → is_new scope name ≡ true → place_of name scope ≡ None
+new_is_unnamed scope name h = unnamed (place_of name scope) (is_name name) h
 
 -- ---- the predicate
 
@@ -176,8 +200,8 @@ text_is_refused wanted nested.TooDeep r told h = λ _. deep_text wanted r told h
 
 -- ---- reading a scope
 
-pub field_stops : (fields : List Field) (i : ℕ) (f : Field) (scope : List Named) (s : Status) → slice_get fields i ≡ Some f → with_field scope f ≡ Err s → stepped (next_field fields) [] i ≡ Ok scope → i < length fields → scope_given fields ≡ Err (at_column s i)
-field_stops fields i f scope s there stopped before h = steps_stop (next_field fields) [] i (length fields) scope (at_column s i) before (rw (there, stopped) refl) h
+pub field_stops : (k : Kinds) (fields : List Field) (i : ℕ) (f : Field) (scope : List Named) (s : Status) → slice_get fields i ≡ Some f → with_field k scope f ≡ Err s → stepped (next_field k fields) [] i ≡ Ok scope → i < length fields → scope_given k fields ≡ Err (at_column s i)
+field_stops k fields i f scope s there stopped before h = steps_stop (next_field k fields) [] i (length fields) scope (at_column s i) before (rw (there, stopped) refl) h
 
-pub next_column : (fields : List Field) (i : ℕ) (f : Field) (scope new : List Named) → slice_get fields i ≡ Some f → with_field scope f ≡ Ok new → stepped (next_field fields) [] i ≡ Ok scope → stepped (next_field fields) [] (i + 1) ≡ Ok new
-next_column fields i f scope new there read before = rw (add-one, before, there, read) refl
+pub next_column : (k : Kinds) (fields : List Field) (i : ℕ) (f : Field) (scope new : List Named) → slice_get fields i ≡ Some f → with_field k scope f ≡ Ok new → stepped (next_field k fields) [] i ≡ Ok scope → stepped (next_field k fields) [] (i + 1) ≡ Ok new
+next_column k fields i f scope new there read before = rw (add-one, before, there, read) refl

@@ -5,6 +5,7 @@ pub mod Encoding
 pub mod Extents
 pub mod Given
 pub mod Laws
+pub mod LogicalKinds
 pub mod MapCells
 pub mod Measures
 pub mod Merges

@@ -22,6 +22,7 @@ use Rattle.vortex_capi.specs.declared.statistic.Statistic.{Statistic}
 use Rattle.vortex_capi.specs.declared.status.Status.TheVariants.{BadFlag, BadLength, BadLine, TooDeep}
 use Rattle.vortex_capi.specs.Refusals.{followed}
 use Rattle.vortex_capi.specs.Scopes.{max_depth, predicate_given, scope_given}
+use Rattle.vortex_capi.specs.declared.logical.Kinds.TheVariants.{Plain}
 use Rattle.vortex_capi.specs.Statuses.{nowhere, status_number}
 use Rattle.vortex_capi.specs.Tables.{sources_given, zones_given}
 
@@ -95,7 +96,7 @@ asked_of scope rows stats given p =
 -- what the arguments ask for, or the first of them that is refused: the flags, the room for the answers, the scope, the predicate, the statistics, and their values zone by zone
 abbrev pub asked : List Field → List ℕ → List Statistic → List ℕ → (flags room : ℕ) → Result Asked Refusal
 asked fields rows stats text flags room =
-    followed (with_flags flags) (λ taken. followed (with_places room rows) (λ there. followed (scope_given fields) (λ scope.
+    followed (with_flags flags) (λ taken. followed (with_places room rows) (λ there. followed (scope_given Plain fields) (λ scope.
     followed (predicate_given scope text) (λ e. asked_of scope rows stats e (halved e)))))
 
 -- the sets of the zones fit the scope, the predicate is one over it, and the proofs are right

@@ -1,5 +1,5 @@
 -- The columns that a caller names, and the predicate over them.
-use Rattle.std.specs.Prelude.{◌≡◌, ◌≢◌, ◌≤◌, ◌⊎◌, ⊤, ℕ, true, false, nat_le, List, [], ◌∷◌, ◌++◌, Option, None, Some, Result, Ok, Err, if◌then◌else◌, length, slice_get}
+use Rattle.std.specs.Prelude.{◌≡◌, ◌≢◌, ◌≤◌, ◌⊎◌, ⊤, ℕ, true, false, nat_le, List, [], ◌∷◌, ◌++◌, Option, None, Some, Result, Ok, Err, if◌then◌else◌, length, map, slice_get}
 use Rattle.std.specs.Str.{is_utf8}
 use Rattle.vortex_base.specs.declared.dtype.DType.{DType}
 use Rattle.vortex_base.specs.Data.Scopes.{Named, is_empty}
@@ -17,10 +17,15 @@ use Rattle.vortex_syntax.specs.Names.{is_new}
 use Rattle.vortex_capi.specs.declared.fault.Refusal.{Refusal}
 use Rattle.vortex_capi.specs.declared.field.Field.{Field}
 use Rattle.vortex_capi.specs.declared.status.Status.{Status}
-use Rattle.vortex_capi.specs.declared.status.Status.TheVariants.{BadLength, BadLine, BadName, NoMemory, NotAPredicate, TooDeep}
+use Rattle.vortex_capi.specs.declared.status.Status.TheVariants.{BadKind, BadLength, BadLine, BadName, NoMemory, NotAPredicate, TooDeep}
+use Rattle.vortex_capi.specs.declared.logical.Kinds.{Kinds}
+use Rattle.vortex_capi.specs.declared.logical.Kinds.TheVariants.{Logical, Plain}
+use Rattle.vortex_capi.specs.LogicalKinds.{logical_of, logical_told}
 use Rattle.vortex_capi.specs.Refusals.{followed, placed, stepped}
 use Rattle.vortex_capi.specs.Statuses.{at_column, nowhere}
 use Rattle.vortex_capi.specs.Types.{dtype_of}
+use Rattle.vortex_logical.specs.declared.logical_type.LogicalType.{LogicalType}
+use Rattle.vortex_sql.specs.Schemas.{SchemaData}
 
 -- ---- the scope
 
@@ -29,27 +34,45 @@ abbrev pub with_typed : List Named → List ℕ → Result DType Status → Resu
 with_typed scope name (Err s) = Err s
 with_typed scope name (Ok t) = if is_new scope name then Ok (scope ++ (name, t) ∷ []) else Err BadName
 
-abbrev pub with_field : List Named → Field → Result (List Named) Status
-with_field scope f = with_typed scope f.name.now (dtype_of f.kind f.nullable)
+-- a call that takes plain kinds refuses a column whose values stand for others
+abbrev pub taken : Kinds → Field → Option LogicalType → Result DType Status
+taken Plain f (Some t) = Err BadKind
+taken Plain f None = dtype_of f.kind f.nullable
+taken Logical f t = dtype_of f.kind f.nullable
 
-abbrev pub with_field_or : List Named → Option Field → Result (List Named) Status
-with_field_or scope None = Err BadLength
-with_field_or scope (Some f) = with_field scope f
+abbrev pub dtype_by : Kinds → Field → Result (Option LogicalType) Status → Result DType Status
+dtype_by k f (Err s) = Err s
+dtype_by k f (Ok t) = taken k f t
 
-abbrev pub next_field : List Field → ℕ → List Named → Result (List Named) Refusal
-next_field fields i scope = placed (λ s. at_column s i) (with_field_or scope (slice_get fields i))
+-- the type that a column's values are kept as
+abbrev pub field_dtype : Kinds → Field → Result DType Status
+field_dtype k f = dtype_by k f (logical_of f)
+
+abbrev pub with_field : Kinds → List Named → Field → Result (List Named) Status
+with_field k scope f = with_typed scope f.name.now (field_dtype k f)
+
+abbrev pub with_field_or : Kinds → List Named → Option Field → Result (List Named) Status
+with_field_or k scope None = Err BadLength
+with_field_or k scope (Some f) = with_field k scope f
+
+abbrev pub next_field : Kinds → List Field → ℕ → List Named → Result (List Named) Refusal
+next_field k fields i scope = placed (λ s. at_column s i) (with_field_or k scope (slice_get fields i))
 
 -- the columns in order, or the first that is refused
-abbrev pub scope_given : List Field → Result (List Named) Refusal
-scope_given fields = stepped (next_field fields) [] (length fields)
+abbrev pub scope_given : Kinds → List Field → Result (List Named) Refusal
+scope_given k fields = stepped (next_field k fields) [] (length fields)
 
 -- a scope has a column
 abbrev pub filled : List Named → Result (List Named) Refusal
 filled [] = Err (nowhere BadLength)
 filled (c ∷ cs) = Ok (c ∷ cs)
 
-abbrev pub filled_scope_given : List Field → Result (List Named) Refusal
-filled_scope_given fields = followed (scope_given fields) filled
+abbrev pub filled_scope_given : Kinds → List Field → Result (List Named) Refusal
+filled_scope_given k fields = followed (scope_given k fields) filled
+
+-- the columns with what their values stand for
+abbrev pub schema_given : List Field → Result SchemaData Refusal
+schema_given fields = followed (filled_scope_given Logical fields) (λ scope. Ok (record { scope = scope; logical = map logical_told fields }))
 
 -- ---- the predicate
 

@@ -12,6 +12,7 @@ use Rattle.vortex_capi.specs.declared.status.Status.TheVariants.{BadKind}
 abbrev pub nullability_of : ℕ → Option Nullability
 nullability_of n = if n == 0 then Some NonNullable else (if n == 1 then Some Nullable else None)
 
+-- what values are kept as: dates in 32 bits, times, timestamps and decimals in 64
 abbrev pub kind_of : ℕ → Nullability → Option DType
 kind_of k n =
     if k == 0 then Some dtype.Null else (
@@ -25,7 +26,12 @@ kind_of k n =
     if k == 8 then Some (dtype.Primitive ptype.I32 n) else (
     if k == 9 then Some (dtype.Primitive ptype.I64 n) else (
     if k == 10 then Some (dtype.Utf8 n) else (
-    if k == 11 then Some (dtype.Binary n) else None)))))))))))
+    if k == 11 then Some (dtype.Binary n) else (
+    if k == 12 then Some (dtype.Primitive ptype.I32 n) else (
+    if k == 13 then Some (dtype.Primitive ptype.I64 n) else (
+    if k == 14 then Some (dtype.Primitive ptype.I64 n) else (
+    if k == 15 then Some (dtype.Primitive ptype.I64 n) else (
+    if k == 16 then Some (dtype.Primitive ptype.I64 n) else None))))))))))))))))
 
 abbrev pub ok_or_bad_kind : Option DType → Result DType Status
 ok_or_bad_kind None = Err BadKind

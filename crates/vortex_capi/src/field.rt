@@ -1,16 +1,21 @@
 //! The columns that a caller names.
-ghost use Rattle.std.specs.Prelude.{◌≡◌, ◌<◌, Some, length, slice_get};
+ghost use Rattle.std.specs.Prelude.{◌≡◌, ◌<◌, Ok, Some, length, map, slice_get};
 ghost use Rattle.vortex_base.specs.Data.Scopes.{named_columns};
 ghost use Rattle.vortex_capi.specs.Refusals.{Answers, Changes};
+ghost use Rattle.vortex_capi.specs.LogicalKinds.{logical_told};
 ghost use Rattle.vortex_capi.specs.Scopes as spec;
 ghost use Rattle.vortex_syntax.specs.Names.{is_new};
 
 use crate::fault::Refusal;
+use crate::logical::{Kinds, logical_of, logical_told};
 use crate::status::Status;
 use crate::types::dtype_of;
 use std::alloc::Global;
 use std::str;
+use vortex_base::dtype::DType;
 use vortex_base::scope::Scope;
+use vortex_logical::logical_type::LogicalType;
+use vortex_sql::schema::Schema;
 use vortex_syntax::columns::Columns;
 use vortex_syntax::names::is_name;
 
@@ -24,6 +29,12 @@ pub struct Field<'a> {
     pub kind: u8,
     /// 1 for a type that has null, else 0.
     pub nullable: u8,
+    /// The unit of times and timestamps, else 0.
+    pub unit: u8,
+    /// How many digits decimals have, else 0.
+    pub precision: u8,
+    /// How many of these stand behind the point, else 0.
+    pub scale: u8,
 }
 
 // Whether a word may name the next column.
@@ -34,12 +45,23 @@ fn is_new(columns: &Columns, name: &[u8]) -> bool
 }
 
 impl Field<'_> {
+    // The type that the column's values are kept as, of kinds that the call takes.
+    fn dtype(&self, kinds: Kinds) -> Result<DType, Status>
+        ensures { result ≡ spec.field_dtype kinds self.now }
+    {
+        match (kinds, logical_of(self)) {
+            (_, Err(status)) => Err(status),
+            (Kinds::Plain, Ok(Some(_))) => Err(Status::BadKind),
+            _ => dtype_of(self.kind, self.nullable),
+        }
+    }
+
     // Adds the column.
-    fn add_to(&self, alloc: Global, columns: &mut Columns) -> Result<(), Status>
-        ensures { Changes result (spec.with_field (named_columns columns.old) self.now)
+    fn add_to(&self, alloc: Global, kinds: Kinds, columns: &mut Columns) -> Result<(), Status>
+        ensures { Changes result (spec.with_field kinds (named_columns columns.old) self.now)
             (named_columns columns.new) }
     {
-        let dtype = dtype_of(self.kind, self.nullable)?;
+        let dtype = self.dtype(kinds)?;
         if !is_new(columns, self.name) {
             return Err(Status::BadName);
         }
@@ -59,14 +81,19 @@ fn field_there<'b, 'a>(fields: &'b [Field<'a>], place: usize) -> &'b Field<'a>
     &fields[place]
 }
 
-/// The columns of a scope in order.
-pub(crate) fn columns_given(alloc: Global, fields: &[Field<'_>]) -> Result<Columns, Refusal>
-    ensures { Answers (λ columns. named_columns columns) result (spec.scope_given fields.now) }
+/// The columns of a scope in order, of kinds that the call takes.
+pub(crate) fn columns_given(
+    alloc: Global,
+    kinds: Kinds,
+    fields: &[Field<'_>],
+) -> Result<Columns, Refusal>
+    ensures { Answers (λ columns. named_columns columns) result
+        (spec.scope_given kinds fields.now) }
 {
     let mut columns = Columns::new(alloc);
     for place in 0..fields.len() {
         let field = field_there(fields, place);
-        match field.add_to(alloc, &mut columns) {
+        match field.add_to(alloc, kinds, &mut columns) {
             Ok(()) => {}
             Err(status) => return Err(Refusal::at_column(status, place)),
         }
@@ -74,13 +101,34 @@ pub(crate) fn columns_given(alloc: Global, fields: &[Field<'_>]) -> Result<Colum
     Ok(columns)
 }
 
-/// The scope that a caller names. `BadLength` where it has no column.
-pub fn scope_given(alloc: Global, fields: &[Field<'_>]) -> Result<Scope, Refusal>
-    ensures { Answers (λ scope. scope) result (spec.filled_scope_given fields.now) }
+// The scope that a caller names. `BadLength` where it has no column.
+fn scope_given(alloc: Global, kinds: Kinds, fields: &[Field<'_>]) -> Result<Scope, Refusal>
+    ensures { Answers (λ scope. scope) result (spec.filled_scope_given kinds fields.now) }
 {
-    let columns = columns_given(alloc, fields)?;
+    let columns = columns_given(alloc, kinds, fields)?;
     if columns.as_slice().is_empty() {
         return Err(Refusal::at_entry(Status::BadLength, 0));
     }
     Ok(Scope::new_unchecked(columns.into_vec()).try_shared(alloc)?)
+}
+
+// The types that the values of the columns stand for, or `None` for each of plain values.
+fn logical_types(alloc: Global, fields: &[Field<'_>]) -> Result<Vec<Option<LogicalType>>, Refusal>
+    ensures { Answers (λ types. types.items) result (Ok (map logical_told fields.now)) }
+{
+    let mut types = Vec::with_capacity(alloc, fields.len())?;
+    for field in fields {
+        types.push(logical_told(field))?;
+    }
+    Ok(types)
+}
+
+/// The columns that a caller names, with what their values stand for. `BadLength` where there is no
+/// column.
+pub fn schema_given(alloc: Global, fields: &[Field<'_>]) -> Result<Schema, Refusal>
+    ensures { Answers (λ schema. schema) result (spec.schema_given fields.now) }
+{
+    let scope = scope_given(alloc, Kinds::Logical, fields)?;
+    let logical = logical_types(alloc, fields)?;
+    Ok(Schema::new(scope, logical))
 }

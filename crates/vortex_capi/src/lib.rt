@@ -17,6 +17,7 @@ pub mod field;
 mod first_fault;
 mod given;
 pub mod laws;
+mod logical;
 pub mod measure;
 pub mod merge;
 pub mod merge_zones;

@@ -11,6 +11,7 @@ ghost use Rattle.vortex_capi.specs.Scopes.{AnswersText};
 use crate::by_proofs::answers_by_proofs;
 use crate::fault::{Fault, Refusal};
 use crate::field::{Field, columns_given};
+use crate::logical::Kinds;
 use crate::named::pruning_of;
 use crate::predicate::predicate_given;
 use crate::statistic::Statistic;
@@ -73,7 +74,7 @@ fn answers_given(
     if room != rows.len() {
         return Err(Refusal::at_entry(Status::BadLength, 0));
     }
-    let columns = columns_given(alloc, fields)?;
+    let columns = columns_given(alloc, Kinds::Plain, fields)?;
     let predicate = predicate_given(alloc, &columns, text)?;
     let scope = Scope::new_unchecked(columns.into_vec()).try_shared(alloc)?;
     predicate_answers(alloc, &scope, &predicate, rows, stats)

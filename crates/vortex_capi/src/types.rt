@@ -17,7 +17,8 @@ fn nullability_of(nullable: u8) -> Option<Nullability>
     }
 }
 
-// The type of a kind of values.
+// The type that values of a kind are kept as: dates in 32 bits, and times, timestamps and decimals
+// in 64.
 fn kind_of(kind: u8, nullability: Nullability) -> Option<DType>
     ensures { result ≡ spec.kind_of kind nullability }
 {
@@ -34,11 +35,13 @@ fn kind_of(kind: u8, nullability: Nullability) -> Option<DType>
         9 => Some(DType::Primitive(PType::I64, nullability)),
         10 => Some(DType::Utf8(nullability)),
         11 => Some(DType::Binary(nullability)),
+        12 => Some(DType::Primitive(PType::I32, nullability)),
+        13 | 14 | 15 | 16 => Some(DType::Primitive(PType::I64, nullability)),
         _ => None,
     }
 }
 
-/// The type of a kind, with null or without.
+/// The type that values of a kind are kept as, with null or without.
 pub(crate) fn dtype_of(kind: u8, nullable: u8) -> Result<DType, Status>
     ensures { result ≡ spec.dtype_of kind nullable }
 {

@@ -294,6 +294,9 @@ const SCOPE: [Field<'static>; 1] = [Field {
     name: b"a",
     kind: 7,
     nullable: 0,
+    unit: 0,
+    precision: 0,
+    scale: 0,
 }];
 
 #[test]

@@ -5,6 +5,8 @@
 #[cfg(test)]
 mod calls;
 #[cfg(test)]
+mod logical;
+#[cfg(test)]
 mod many_columns;
 #[cfg(test)]
 mod nested;

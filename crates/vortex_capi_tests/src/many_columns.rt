@@ -63,6 +63,9 @@ fn pruned(
             name,
             kind: 2,
             nullable: 1,
+            unit: 0,
+            precision: 0,
+            scale: 0,
         })?;
     }
     let mut answers = [9u8; 8];

@@ -5,8 +5,9 @@ use std::test::Fail;
 use vortex_base::dtype::DType;
 use vortex_base::scope::Scope;
 use vortex_base::types::{Nullability, PType};
-use vortex_sql::condition::{condition, condition_by};
+use vortex_sql::condition::condition;
 use vortex_sql::error::SqlError;
+use vortex_sql::schema::Schema;
 use vortex_sql::syntax::error::ParseError;
 use vortex_sql::syntax::parse::Names;
 
@@ -20,17 +21,17 @@ const COLUMNS: [(&str, DType); 5] = [
     ("0: f()", DType::Bool(YES)),
 ];
 
-fn scope(alloc: Global) -> Result<Scope, Fail> {
+fn schema(alloc: Global) -> Result<Schema, Fail> {
     let mut columns = Vec::new(alloc);
     for (name, dtype) in COLUMNS {
         columns.push((String::from_str(alloc, name)?, dtype))?;
     }
-    Ok(Scope::try_new(columns)?)
+    Ok(Schema::of_scope(alloc, Scope::try_new(columns)?))
 }
 
 fn spans(alloc: Global, text: &str, names: Names) -> Result<Vec<(usize, usize)>, Fail> {
-    let scope = scope(alloc)?;
-    match condition_by(alloc, text, &scope, names) {
+    let schema = schema(alloc)?;
+    match condition(alloc, text, &schema, names) {
         Ok(sql) => Ok(sql.opaque),
         Err(_) => Err(Fail::from("refused")),
     }
@@ -101,8 +102,13 @@ fn look_up_the_last_name_where_it_is_wanted(rt: HostRuntime) -> Result<(), Fail>
 
 #[test]
 fn name_a_column_by_the_place_and_the_text(rt: HostRuntime) -> Result<(), Fail> {
-    let scope = scope(rt.alloc())?;
-    match condition(rt.alloc(), "flag AND lower(name) = 'x'", &scope) {
+    let schema = schema(rt.alloc())?;
+    match condition(
+        rt.alloc(),
+        "flag AND lower(name) = 'x'",
+        &schema,
+        Names::Plain,
+    ) {
         Ok(sql) => {
             assert!(rt; sql.scope.len() == 6);
             assert!(rt; sql.scope.find("9: lower(name) = 'x'") == Some(5));
@@ -113,9 +119,9 @@ fn name_a_column_by_the_place_and_the_text(rt: HostRuntime) -> Result<(), Fail> 
 }
 
 fn expect_refused(rt: &impl Abort, alloc: Global, rows: &[(&str, SqlError)]) -> Result<(), Fail> {
-    let scope = scope(alloc)?;
+    let schema = schema(alloc)?;
     for (text, expected) in rows {
-        let refusal = condition(alloc, text, &scope).err();
+        let refusal = condition(alloc, text, &schema, Names::Plain).err();
         assert!(rt; refusal == Some(*expected), "{text}");
     }
     Ok(())

@@ -19,6 +19,9 @@ const QTY: Field<'static> = Field {
     name: b"qty",
     kind: 2,
     nullable: 1,
+    unit: 0,
+    precision: 0,
+    scale: 0,
 };
 
 // The greatest and the least values of three zones of four rows: 1 to 3, 4 to 6 and 7 to 9; none is

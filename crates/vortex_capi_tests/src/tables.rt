@@ -34,6 +34,9 @@ fn pruned(
         name: b"a",
         kind,
         nullable: 1,
+        unit: 0,
+        precision: 0,
+        scale: 0,
     };
     let mut answers = [9u8; 4];
     let mut fault = NOWHERE;

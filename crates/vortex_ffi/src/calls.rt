@@ -202,7 +202,7 @@ pub extern "C" fn vortex_prune_sql(
     len: &mut usize,
     fault: &mut Fault,
 ) -> u8
-    // Of an answer: the text is a condition over the scope. The arrays have the answer for each
+    // Of an answer: the text is a condition over the columns. The arrays have the answer for each
     // zone that its proofs give, and where each leaf stands that isn't read. Whatever rows a zone
     // holds, if its statistics are true of them, and whatever those leaves mean: of a skipped zone
     // none satisfies the condition, and of a whole one each does.
@@ -219,7 +219,7 @@ pub extern "C" fn vortex_prune_sql(
     ensures told { result ≡ 0 → fault.new ≡ fault.old }
     // A refusal other than for memory has its cause, the first of several.
     ensures refused { result ≢ 0 → result ≢ 4 → sql_prunes.IsRefusedFor
-        (sql_prunes.scope_asked scope.now rows.now flags (length answers.old)) rows.now stats.now
+        (sql_prunes.columns_asked scope.now rows.now flags (length answers.old)) rows.now stats.now
         text.now (length unread.old) result len.new fault.new }
 {
     prune_sql(

@@ -5,7 +5,7 @@ ghost use Rattle.std.specs.Prelude.{◌≡◌, ◌+◌, ◌*◌};
 pub const MAJOR: u32 = 0;
 
 /// The second number, which changes where something is added.
-pub const MINOR: u32 = 2;
+pub const MINOR: u32 = 3;
 
 /// The third number.
 pub const PATCH: u32 = 0;

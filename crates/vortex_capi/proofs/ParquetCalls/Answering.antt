@@ -7,24 +7,20 @@ use Rattle.vortex_parquet.specs.declared.columns.Leaf.{Leaf}
 use Rattle.vortex_parquet.specs.declared.stats.GroupStats.{GroupStats}
 use Rattle.vortex_predicates.specs.RowGroups.Pruning.{zone_data}
 use Rattle.vortex_predicates.specs.Footers.Pruning.{PrunesCondition}
-use Rattle.vortex_zone_map.specs.Zone.{ZoneData}
+use Rattle.vortex_predicates.proofs.Footers.Refusing.{same_zones}
 use Rattle.vortex_prune.specs.Scanning.ZoneScans.{zone_verdicts}
 use Rattle.vortex_prune.specs.declared.scan.verdict.Verdict.{Verdict}
-use Rattle.vortex_predicates.specs.Conditions.Conditions.{ProvedCondition}
+use Rattle.vortex_predicates.specs.Conditions.Conditions.{ProvedCondition, schema_of}
 use Rattle.vortex_sql.specs.Lowering.{span_of}
 use Rattle.vortex_sql.specs.declared.syntax.tree.Leaf.{Leaf as Leaf'}
 use Rattle.vortex_capi.specs.Spans.{leaf_span, span_at}
-use Rattle.vortex_capi.specs.ParquetCalls.FooterPrunes.{AreFound, AreWritten, IsAnsweredBy, IsShort, Places, all_told, known_zone}
+use Rattle.vortex_capi.specs.ParquetCalls.FooterPrunes.{AreFound, AreWritten, IsAnsweredBy, IsShort, Places, all_told}
 use Rattle.vortex_capi.specs.declared.span.Span.{Span}
 use Rattle.vortex_capi.specs.declared.parquet.row_group.RowGroup.{RowGroup}
 use Rattle.vortex_capi.proofs.ParquetCalls.Told.{length_told}
 
-pub same_zones : (gs : List GroupStats) → map zone_data gs ≡ map known_zone (map group_view gs)
-same_zones [] = refl
-same_zones (g ∷ gs) = ap (λ (zs : List ZoneData). zone_data g ∷ zs) (same_zones gs)
-
 pub found_of : (file : FileData) (count : ℕ) (ls : List Leaf) (x : ProvedCondition) (gs : List GroupStats) (vs : List Verdict) (told : List RowGroup) → groups_of ls count file ≡ Ok (map group_view gs)
-    → vs ≡ zone_verdicts x.falsifier x.satisfier x.scope (map zone_data gs) → PrunesCondition x.scope x.condition ls file (skipped_places vs) (whole_places vs) → length gs ≡ file.groups.count → length vs ≡ length gs
+    → vs ≡ zone_verdicts x.falsifier x.satisfier x.scope (map zone_data gs) → PrunesCondition (schema_of x) x.condition ls file (skipped_places vs) (whole_places vs) → length gs ≡ file.groups.count → length vs ≡ length gs
     → told ≡ all_told (map group_view gs) vs → AreFound file count ls x told
 found_of file count ls x gs vs told known judged sound counted long is = record {
   known = map group_view gs;

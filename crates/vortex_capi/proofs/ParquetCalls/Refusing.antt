@@ -1,5 +1,5 @@
 -- What a refused call says.
-use Rattle.std.proofs.Common.{◌≡◌, ◌≢◌, ℕ, List, Ok, inl, inr, refl, ap, sym, ◌∙◌, arith}
+use Rattle.std.proofs.Common.{◌≡◌, ◌≢◌, ℕ, List, [], Ok, inl, inr, refl, ap, sym, ◌∙◌, arith}
 use Rattle.vortex_capi.specs.declared.fault.Fault.{Fault}
 use Rattle.vortex_parquet.specs.Columns.{ColumnView, columns_of}
 use Rattle.vortex_parquet.specs.Footer.{length_of}
@@ -55,7 +55,7 @@ columns_refused footer text flags file (read.Fault f) r is found h n = inr (inl 
 pub text_refused : (footer text : List ℕ) (flags : ℕ) (file : FileData) (cs : List ColumnView) (count : ℕ) (r : Refusal) → file_of footer ≡ Ok file → columns_of file.schema ≡ Ok (cs, count) → IsNoText text r → IsAskRefusal footer text flags r
 text_refused footer text flags file cs count r found columns h = inr (inr (record { file = file; read = found; columns = cs; count = count; are_columns = columns; cause = inl h }))
 
-pub condition_refused : (footer text : List ℕ) (flags : ℕ) (file : FileData) (cs : List ColumnView) (count : ℕ) (e : FooterError) (r : Refusal) → file_of footer ≡ Ok file → columns_of file.schema ≡ Ok (cs, count) → IsText text → IsToldOf cs text e → r ≡ of_footer e
+pub condition_refused : (footer text : List ℕ) (flags : ℕ) (file : FileData) (cs : List ColumnView) (count : ℕ) (e : FooterError) (r : Refusal) → file_of footer ≡ Ok file → columns_of file.schema ≡ Ok (cs, count) → IsText text → IsToldOf [] cs count text e → r ≡ of_footer e
     → IsAskRefusal footer text flags r
 condition_refused footer text flags file cs count e r found columns utf8 told is =
     inr (inr (record { file = file; read = found; columns = cs; count = count; are_columns = columns; cause = inr (utf8, e, told, is) }))
@@ -63,7 +63,7 @@ condition_refused footer text flags file cs count e r found columns utf8 told is
 -- ---- what is answered
 
 -- a fault of the row groups is told
-pub groups_refused : (file : FileData) (count : ℕ) (ls : List Leaf) (x : ProvedCondition) (old new : Places) (result : ℕ) (e : FooterError) → IsGroupFault (groups_of ls count file) e → IsToldAs (of_footer e) result new.fault
+pub groups_refused : (file : FileData) (count : ℕ) (ls : List Leaf) (x : ProvedCondition) (old new : Places) (result : ℕ) (e : FooterError) → IsGroupFault x (groups_of ls count file) e → IsToldAs (of_footer e) result new.fault
     → new.groups ≡ old.groups → new.unread ≡ old.unread → new.found_len ≡ old.found_len → new.unread_len ≡ old.unread_len → IsAnsweredBy file count ls x old new result
 groups_refused file count ls x old new result e fault put groups unread found unread_len =
     record {
@@ -76,11 +76,11 @@ groups_refused file count ls x old new result e fault put groups unread found un
       lack = λ z n. inr (record { error = e; refused = fault; told = put });
     }
 
-lack_of_asked : (footer text : List ℕ) (file : FileData) (count : ℕ) (ls : List Leaf) (x : ProvedCondition) (old new : Places) (result : ℕ) → IsAsked footer text file count ls x → IsLack file count ls x old result new
-    → IsLackOfAsked footer text old.groups old.unread result new.found_len new.unread_len new.fault
-lack_of_asked footer text file count ls x old new result asked lack = record { file = file; count = count; ls = ls; condition = x; asked = asked; lack = lack }
+lack_of_asked : (footer text : List ℕ) (flags : ℕ) (file : FileData) (count : ℕ) (ls : List Leaf) (x : ProvedCondition) (old new : Places) (result : ℕ) → IsAsked footer text flags file count ls x → IsLack file count ls x old result new
+    → IsLackOfAsked footer text flags old.groups old.unread result new.found_len new.unread_len new.fault
+lack_of_asked footer text flags file count ls x old new result asked lack = record { file = file; count = count; ls = ls; condition = x; asked = asked; lack = lack }
 
-pub answered_as : (footer text : List ℕ) (flags : ℕ) (file : FileData) (count : ℕ) (ls : List Leaf) (x : ProvedCondition) (old new : Places) (result : ℕ) → IsAsked footer text file count ls x → IsAnsweredBy file count ls x old new result
+pub answered_as : (footer text : List ℕ) (flags : ℕ) (file : FileData) (count : ℕ) (ls : List Leaf) (x : ProvedCondition) (old new : Places) (result : ℕ) → IsAsked footer text flags file count ls x → IsAnsweredBy file count ls x old new result
     → IsPruned footer text flags old new result
 answered_as footer text flags file count ls x old new result asked h =
     record {
@@ -90,7 +90,7 @@ answered_as footer text flags file count ls x old new result asked h =
       found_len = h.found_len;
       unread_len = h.unread_len;
       told = h.told;
-      refused = λ z n. inr (lack_of_asked footer text file count ls x old new result asked (h.lack z n));
+      refused = λ z n. inr (lack_of_asked footer text flags file count ls x old new result asked (h.lack z n));
     }
 
 pub refused_as : (footer text : List ℕ) (flags : ℕ) (old : Places) (r : Refusal) (result : ℕ) (fault : Fault) → (r.status ≢ NoMemory → IsAskRefusal footer text flags r) → IsToldAs r result fault

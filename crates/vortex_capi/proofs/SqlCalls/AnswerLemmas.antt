@@ -24,26 +24,28 @@ use Rattle.vortex_capi.specs.declared.status.Status.{Status}
 use Rattle.vortex_capi.specs.declared.status.Status.TheVariants.{NoMemory}
 use Rattle.vortex_sql.specs.Lowering.{span_of}
 use Rattle.vortex_sql.specs.Refusals.{IsTextRefusal}
+use Rattle.vortex_sql.specs.Schemas.{SchemaData}
 use Rattle.vortex_predicates.specs.Conditions.Refusals.{IsConditionRefusal}
+use Rattle.vortex_rewrite.specs.Rewriting.Lawful.{OwnRule}
 use Rattle.vortex_predicates.specs.declared.sql.error.ConditionError.{ConditionError}
 use Rattle.vortex_predicates.specs.declared.sql.error.ConditionError.TheVariants.{Sql, Stats}
 use Rattle.vortex_sql.specs.declared.syntax.tree.Condition.{Condition}
 use Rattle.vortex_sql.specs.declared.syntax.tree.Leaf.{Leaf}
-use Rattle.vortex_capi.specs.SqlCalls.SqlPrunes.{AreAnswered, AreWritten, Arrays, IsAnswered, IsAnsweredBy, IsConditionOf, IsLack, IsRefusedFor, IsTextFault, of_condition, scope_asked, unread_of}
+use Rattle.vortex_capi.specs.SqlCalls.SqlPrunes.{AreAnswered, AreWritten, Arrays, Columns, IsAnswered, IsAnsweredBy, IsConditionOf, IsLack, IsRefusedFor, IsTextFault, columns_asked, of_condition, unread_of}
 use Rattle.vortex_capi.specs.declared.span.Span.{Span}
 
-module _ (scope : List Named) (c : Condition) (f s : Option (Tree Place)) (refutes : Refutes scope c f) (confirms : Confirms scope c s)
-    (zones : List ZoneData) (answers : List ℕ) (is : answers ≡ zone_answers f s scope zones) where
-  skipped_true : (i : ℕ) (zone : ZoneData) → slice_get zones i ≡ Some zone → Contains (answered 1 answers) i → proves_of f zone.rows (told_values scope zone) ≡ true
+module _ (columns : SchemaData) (c : Condition) (f s : Option (Tree Place)) (refutes : Refutes columns c f) (confirms : Confirms columns c s)
+    (zones : List ZoneData) (answers : List ℕ) (is : answers ≡ zone_answers f s columns.scope zones) where
+  skipped_true : (i : ℕ) (zone : ZoneData) → slice_get zones i ≡ Some zone → Contains (answered 1 answers) i → proves_of f zone.rows (told_values columns.scope zone) ≡ true
   skipped_true i zone there h =
-      (place_listed (λ (z : ZoneData). proves_of f z.rows (told_values scope z)) zones i zone there).0 (subst (λ l. Contains l i) (ones f s scope zones answers is) h)
+      (place_listed (λ (z : ZoneData). proves_of f z.rows (told_values columns.scope z)) zones i zone there).0 (subst (λ l. Contains l i) (ones f s columns.scope zones answers is) h)
 
-  whole_true : (i : ℕ) (zone : ZoneData) → slice_get zones i ≡ Some zone → Contains (answered 2 answers) i → proves_of s zone.rows (told_values scope zone) ≡ true
+  whole_true : (i : ℕ) (zone : ZoneData) → slice_get zones i ≡ Some zone → Contains (answered 2 answers) i → proves_of s zone.rows (told_values columns.scope zone) ≡ true
   whole_true i zone there h =
-      whole_proved (proves_of f zone.rows (told_values scope zone)) (proves_of s zone.rows (told_values scope zone))
-      ((place_listed (λ (z : ZoneData). is_whole (zone_verdict f s scope z)) zones i zone there).0 (subst (λ l. Contains l i) (twos f s scope zones answers is) h))
+      whole_proved (proves_of f zone.rows (told_values columns.scope zone)) (proves_of s zone.rows (told_values columns.scope zone))
+      ((place_listed (λ (z : ZoneData). is_whole (zone_verdict f s columns.scope z)) zones i zone there).0 (subst (λ l. Contains l i) (twos f s columns.scope zones answers is) h))
 
-  pub sound_by : IsSoundFor scope c zones (answered 1 answers) (answered 2 answers)
+  pub sound_by : IsSoundFor columns c zones (answered 1 answers) (answered 2 answers)
   sound_by i zone part there of true_part = (
     (λ h r below. refutes zone part of true_part (skipped_true i zone there h) r below),
     (λ h r below. confirms zone part of true_part (whole_true i zone there h) r below),
@@ -51,9 +53,14 @@ module _ (scope : List Named) (c : Condition) (f s : Option (Tree Place)) (refut
 
 -- ---- why a text is refused
 
-pub text_told : (text given : List ℕ) (scope : List Named) (e : ConditionError) (r : Refusal) → given ≡ text → r ≡ of_condition e → IsConditionRefusal given scope e → r.status ≢ NoMemory → IsTextFault text scope r
-text_told text given scope (Sql e) r same told refused memory = inr (record { error = e; refused = subst (λ t. IsTextRefusal t scope e) same refused; told = told })
-text_told text given scope (Stats f) r same told refused memory = absurd (memory (ap (λ (x : Refusal). x.status) told))
+pub text_told : (own : List OwnRule) (text given : List ℕ) (s : SchemaData) (e : ConditionError) (r : Refusal) → given ≡ text → r ≡ of_condition e → IsConditionRefusal own given s e
+    → r.status ≢ NoMemory → IsTextFault text s r
+text_told own text given s (Sql e) r same told refused memory = inr (record {
+  error = e;
+  refused = subst (λ t. IsTextRefusal t s e) same refused;
+  told = told;
+})
+text_told own text given s (Stats f) r same told refused memory = absurd (memory (ap (λ (x : Refusal). x.status) told))
 
 -- ---- where leaves stand
 
@@ -107,39 +114,42 @@ module _ (x : ProvedCondition) (found answers : List ℕ) (old : Arrays) (places
 not_memory : (s : Status) → (status_number s ≡ 4 → ⊥) → s ≡ NoMemory → ⊥
 not_memory s h is = h (ap status_number is)
 
-pub text_refused : (asked : Result (List Named) Refusal) (scope : List Named) (rows : List ℕ) (stats : List Statistic) (text : List ℕ) (room result len : ℕ) (fault : Fault) (r : Refusal) → asked ≡ Ok scope
-    → (r.status ≢ NoMemory → IsTextFault text scope r) → IsToldAs r result fault → result ≢ 4 → IsRefusedFor asked rows stats text room result len fault
-text_refused asked scope rows stats text room result len fault r is of told four =
-    subst (λ (a : Result (List Named) Refusal). IsRefusedFor a rows stats text room result len fault) (sym is)
+pub text_refused : (asked : Result Columns Refusal) (columns : Columns) (rows : List ℕ) (stats : List Statistic) (text : List ℕ) (room result len : ℕ) (fault : Fault) (r : Refusal) → asked ≡ Ok columns
+    → (r.status ≢ NoMemory → IsTextFault text columns.schema r) → IsToldAs r result fault → result ≢ 4 → IsRefusedFor asked rows stats text room result len fault
+text_refused asked columns rows stats text room result len fault r is of told four =
+    subst (λ (a : Result Columns Refusal). IsRefusedFor a rows stats text room result len fault) (sym is)
     (inl (record { refusal = r; of_text = of (not_memory r.status (λ e. four (told.0 ∙ e))); told = told }))
 
-module _ (scope : List Named) (rows : List ℕ) (stats : List Statistic) (text : List ℕ) (x : ProvedCondition) (of : IsConditionOf text scope x) where
-  over : (r : Result (List ZoneData) Refusal) → zones_asked x.scope rows stats ≡ r → zones_asked scope rows stats ≡ r
-  over r is = ap (λ (s : List Named). zones_asked s rows stats) (sym of.over) ∙ is
+module _ (columns : Columns) (rows : List ℕ) (stats : List Statistic) (text : List ℕ) (x : ProvedCondition) (of : IsConditionOf text columns x) where
+  scoped : x.scope ≡ columns.schema.scope
+  scoped = ap (λ (s : SchemaData). s.scope) of.over
 
-  pub lack_refused : (asked : Result (List Named) Refusal) (room result len : ℕ) (fault : Fault) → asked ≡ Ok scope → IsLack x (zones_asked x.scope rows stats) room result len fault → IsRefusedFor asked rows stats text room result len fault
+  over : (r : Result (List ZoneData) Refusal) → zones_asked x.scope rows stats ≡ r → zones_asked columns.schema.scope rows stats ≡ r
+  over r is = ap (λ (s : List Named). zones_asked s rows stats) (sym scoped) ∙ is
+
+  pub lack_refused : (asked : Result Columns Refusal) (room result len : ℕ) (fault : Fault) → asked ≡ Ok columns → IsLack x (zones_asked x.scope rows stats) room result len fault → IsRefusedFor asked rows stats text room result len fault
   lack_refused asked room result len fault is lack =
-      subst (λ (a : Result (List Named) Refusal). IsRefusedFor a rows stats text room result len fault) (sym is)
+      subst (λ (a : Result Columns Refusal). IsRefusedFor a rows stats text room result len fault) (sym is)
       (inr (elim lack [
         | inl short ↦ inl (short.0, record { condition = x; of_text = of; short = short.1; len = short.2 })
         | inr refused ↦ inr (record { condition = x; of_text = of; refusal = refused.0; refused = over (Err refused.0) refused.1; told = refused.2 })
       ]))
 
   module _ (old new : Arrays) (len : ℕ) where
-    answered_with : (zones : List ZoneData) → AreWritten x zones old new len → IsAnswered text scope zones old new len
+    answered_with : (zones : List ZoneData) → AreWritten x zones old new len → IsAnswered text columns zones old new len
     answered_with zones w =
-        let told : new.answers ≡ zone_answers x.falsifier x.satisfier scope zones = w.answers ∙ ap (λ (s : List Named). zone_answers x.falsifier x.satisfier s zones) of.over in
+        let told : new.answers ≡ zone_answers x.falsifier x.satisfier columns.schema.scope zones = w.answers ∙ ap (λ (s : List Named). zone_answers x.falsifier x.satisfier s zones) scoped in
         record {
           condition = x;
           of_text = of;
           answers = told;
-          sound = sound_by scope x.condition x.falsifier x.satisfier (subst (λ (s : List Named). Refutes s x.condition x.falsifier) of.over of.proofs.refutes)
-              (subst (λ (s : List Named). Confirms s x.condition x.satisfier) of.over of.proofs.confirms) zones new.answers told;
+          sound = sound_by columns.schema x.condition x.falsifier x.satisfier (subst (λ (s : SchemaData). Refutes s x.condition x.falsifier) of.over of.proofs.refutes)
+              (subst (λ (s : SchemaData). Confirms s x.condition x.satisfier) of.over of.proofs.confirms) zones new.answers told;
           unread = w.unread;
           len = w.len;
         }
 
-    pub call_answered : (fields : List Field) (flags : ℕ) → scope_asked fields rows flags (length old.answers) ≡ Ok scope → (zones : Result (List ZoneData) Refusal) → zones_asked x.scope rows stats ≡ zones → IsOk zones
+    pub call_answered : (fields : List Field) (flags : ℕ) → columns_asked fields rows flags (length old.answers) ≡ Ok columns → (zones : Result (List ZoneData) Refusal) → zones_asked x.scope rows stats ≡ zones → IsOk zones
         → IfOk zones (λ given. AreWritten x given old new len) → AreAnswered fields rows stats text flags old new len
-    call_answered fields flags asked (Ok zones) is ok w = record { scope = scope; zones = zones; asked = asked; given = over (Ok zones) is; answered = answered_with zones w }
+    call_answered fields flags asked (Ok zones) is ok w = record { columns = columns; zones = zones; asked = asked; given = over (Ok zones) is; answered = answered_with zones w }
     call_answered fields flags asked (Err r) is ok w = absurd cc

@@ -1,8 +1,8 @@
 -- Worked rows, found by computation alone, and witnesses of the clauses with premises.
-use Rattle.std.proofs.Common.{◌≡◌, ◌+◌, ℕ, List, [], ◌∷◌, Bor, Ok, Err, ap, arith, length, map, refl, ◌∙◌}
+use Rattle.std.proofs.Common.{◌≡◌, ◌+◌, ℕ, List, [], ◌∷◌, Bor, None, Ok, Option, Some, Err, ap, arith, length, map, refl, ◌∙◌}
 use Rattle.std.specs.Prelude.{drop}
 use Rattle.std.proofs.lemmas.List.{length-append, length-map}
-use Rattle.vortex_base.specs.Data.Scopes.{Named}
+use Rattle.vortex_base.specs.declared.dtype.DType.{DType}
 use Rattle.vortex_base.specs.declared.dtype.DType.TheVariants as dtype
 use Rattle.vortex_base.specs.declared.types.Nullability.TheVariants.{NonNullable}
 use Rattle.vortex_base.specs.declared.types.PType.TheVariants as ptype
@@ -13,9 +13,12 @@ use Rattle.vortex_capi.specs.declared.field.Field.{Field}
 use Rattle.vortex_capi.specs.declared.status.Status.TheVariants.{BadFlag, BadKind, BadLength, BadName, BadSql, Misfit, NoMemory, TooDeep}
 use Rattle.vortex_zone_map.proofs.WorkedRows.Witnesses.{IsWitness}
 use Rattle.vortex_sql.specs.declared.error.SqlError.TheVariants as sql
+use Rattle.vortex_logical.specs.declared.logical_type.LogicalType.{LogicalType}
+use Rattle.vortex_logical.specs.declared.logical_type.LogicalType.TheVariants.{Date}
+use Rattle.vortex_sql.specs.declared.syntax.cursor.Names.{Names}
 use Rattle.vortex_sql.specs.declared.syntax.cursor.Names.TheVariants.{Last, Plain}
 use Rattle.vortex_sql.specs.declared.syntax.error.ParseError.TheVariants as syntax
-use Rattle.vortex_capi.specs.SqlCalls.SqlPrunes.{AreAnswered, Arrays, IsRefusedFor, in_text, names_of, of_sql, scope_asked, unread_of}
+use Rattle.vortex_capi.specs.SqlCalls.SqlPrunes.{AreAnswered, Arrays, Columns, IsRefusedFor, columns_by, in_text, names_of, of_sql, columns_asked, unread_of}
 use Rattle.vortex_capi.specs.declared.span.Span.{Span}
 
 -- ---- how names are read
@@ -35,24 +38,27 @@ abbrev bytes_at : List ℕ → Bor (List ℕ)
 bytes_at xs = record { ref_ptr = (0, 0); now = xs }
 
 abbrev byte_field : ℕ → Field
-byte_field kind = record { name = bytes_at (97 ∷ []); kind = kind; nullable = 0 }
+byte_field kind = record { name = bytes_at (97 ∷ []); kind = kind; nullable = 0; unit = 0; precision = 0; scale = 0 }
 
-abbrev byte_scope : List Named
-byte_scope = (97 ∷ [], dtype.Primitive ptype.U8 NonNullable) ∷ []
+abbrev bytes_by : DType → Option LogicalType → Names → Columns
+bytes_by t logical names = columns_by (record { scope = (97 ∷ [], t) ∷ []; logical = logical ∷ [] }) names
 
-asked : scope_asked (byte_field 2 ∷ []) (4 ∷ 4 ∷ []) 2 2 ≡ Ok byte_scope
+asked : columns_asked (byte_field 2 ∷ []) (4 ∷ 4 ∷ []) 2 2 ≡ Ok (bytes_by (dtype.Primitive ptype.U8 NonNullable) None Last)
 asked = refl
 
-flags_first : scope_asked [] (4 ∷ []) 3 0 ≡ Err (nowhere BadFlag)
+asked_of_days : columns_asked (byte_field 12 ∷ []) (4 ∷ 4 ∷ []) 0 2 ≡ Ok (bytes_by (dtype.Primitive ptype.I32 NonNullable) (Some Date) Plain)
+asked_of_days = refl
+
+flags_first : columns_asked [] (4 ∷ []) 3 0 ≡ Err (nowhere BadFlag)
 flags_first = refl
 
-then_room : scope_asked (byte_field 12 ∷ []) (4 ∷ []) 0 2 ≡ Err (nowhere BadLength)
+then_room : columns_asked (byte_field 17 ∷ []) (4 ∷ []) 0 2 ≡ Err (nowhere BadLength)
 then_room = refl
 
-then_scope : scope_asked (byte_field 12 ∷ []) (4 ∷ []) 0 1 ≡ Err (at_column BadKind 0)
+then_scope : columns_asked (byte_field 17 ∷ []) (4 ∷ []) 0 1 ≡ Err (at_column BadKind 0)
 then_scope = refl
 
-then_a_column : scope_asked [] (4 ∷ []) 0 1 ≡ Err (nowhere BadLength)
+then_a_column : columns_asked [] (4 ∷ []) 0 1 ≡ Err (nowhere BadLength)
 then_a_column = refl
 
 -- ---- faults of a text
@@ -106,7 +112,7 @@ place : span_at (7, 9) ≡ record { start = 7; end = 9 }
 place = refl
 
 -- a refusal of the scope has its status and its place
-told_scope : IsRefusedFor (scope_asked (byte_field 12 ∷ []) (4 ∷ []) 0 1) (4 ∷ []) [] [] 0 5 77 (record { row = 0; column = 0; entry = 0 })
+told_scope : IsRefusedFor (columns_asked (byte_field 17 ∷ []) (4 ∷ []) 0 1) (4 ∷ []) [] [] 0 5 77 (record { row = 0; column = 0; entry = 0 })
 told_scope = (refl, refl)
 
 -- ---- witnesses
@@ -156,5 +162,5 @@ prune_sql_counted : IsWitness ((◌≡◌ {A = ℕ} 5 0 → ⊥) × (◌≡◌ {
 prune_sql_counted = record { met = (not_zero, not_three); refuted = λ h. absurd (omega (arith, h)) }
 
 -- another place is told than that of the column
-prune_sql_refused : IsWitness ((◌≡◌ {A = ℕ} 5 0 → ⊥) × (◌≡◌ {A = ℕ} 5 4 → ⊥)) (λ (fault : Fault). IsRefusedFor (scope_asked (byte_field 12 ∷ []) (4 ∷ []) 0 1) (4 ∷ []) [] [] 0 5 77 fault) (fault_at 1)
+prune_sql_refused : IsWitness ((◌≡◌ {A = ℕ} 5 0 → ⊥) × (◌≡◌ {A = ℕ} 5 4 → ⊥)) (λ (fault : Fault). IsRefusedFor (columns_asked (byte_field 17 ∷ []) (4 ∷ []) 0 1) (4 ∷ []) [] [] 0 5 77 fault) (fault_at 1)
 prune_sql_refused = record { met = (not_zero, not_four); refuted = λ h. differ h.1 }

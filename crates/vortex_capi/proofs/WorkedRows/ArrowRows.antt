@@ -183,7 +183,7 @@ no_width = refl
 width_of_numbers : type_given (texts 9 5 2 0 [] heap short) ≡ Ok (dtype.Primitive ptype.I64 Nullable)
 width_of_numbers = refl
 
-no_kind : type_given (texts 12 4 2 0 [] heap short) ≡ Err (at_entry BadKind 0)
+no_kind : type_given (texts 17 4 2 0 [] heap short) ≡ Err (at_entry BadKind 0)
 no_kind = refl
 
 -- ---- the arrays that are read out of buffers

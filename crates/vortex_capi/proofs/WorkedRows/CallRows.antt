@@ -30,7 +30,7 @@ kind_i64 = refl
 kind_binary : dtype_of 11 0 ≡ Ok (dtype.Binary NonNullable)
 kind_binary = refl
 
-no_kind : dtype_of 12 0 ≡ Err BadKind
+no_kind : dtype_of 17 0 ≡ Err BadKind
 no_kind = refl
 
 no_nullability : dtype_of 9 2 ≡ Err BadKind

@@ -14,6 +14,7 @@ use Rattle.vortex_stats.specs.declared.precision.Precision.TheVariants.{Exact, I
 use Rattle.vortex_prune.specs.declared.scan.verdict.Verdict.TheVariants.{Skipped, Tested, Whole}
 use Rattle.vortex_stats.specs.declared.stat.Stat.TheVariants as stat
 use Rattle.vortex_capi.specs.declared.field.Field.{Field}
+use Rattle.vortex_capi.specs.declared.logical.Kinds.TheVariants.{Plain}
 use Rattle.vortex_capi.specs.declared.statistic.Statistic.{Statistic}
 use Rattle.vortex_capi.specs.declared.table.Source.{Source}
 use Rattle.vortex_capi.specs.declared.status.Status.TheVariants.{BadColumn, BadFlag, BadKind, BadKnown, BadLength, BadLine, BadName, BadSql, BadStat, Misfit, NotAPredicate, TooDeep}
@@ -54,7 +55,7 @@ later_counts : set_given 0 (dtype.Primitive ptype.U8 NonNullable) 0 (told 0 3 (1
     ≡ Ok ((stat.Max, Inexact (value.Primitive (number.U8 6))) ∷ (stat.Min, Exact (value.Primitive (number.U8 1))) ∷ [])
 later_counts = refl
 
-bad_kind : merged 12 0 1 [] [] ≡ Err (nowhere BadKind)
+bad_kind : merged 17 0 1 [] [] ≡ Err (nowhere BadKind)
 bad_kind = refl
 
 -- the first statistic that one table lacks, on either side
@@ -81,19 +82,19 @@ right_refused = refl
 -- ---- scopes and predicates
 
 abbrev pub field : List ℕ → (kind nullable : ℕ) → Field
-field name k n = record { name = lent name; kind = k; nullable = n }
+field name k n = record { name = lent name; kind = k; nullable = n; unit = 0; precision = 0; scale = 0 }
 
-two_columns : scope_given (field (97 ∷ []) 7 0 ∷ field (98 ∷ []) 10 1 ∷ []) ≡ Ok ((97 ∷ [], dtype.Primitive ptype.I16 NonNullable) ∷ (98 ∷ [], dtype.Utf8 Nullable) ∷ [])
+two_columns : scope_given Plain (field (97 ∷ []) 7 0 ∷ field (98 ∷ []) 10 1 ∷ []) ≡ Ok ((97 ∷ [], dtype.Primitive ptype.I16 NonNullable) ∷ (98 ∷ [], dtype.Utf8 Nullable) ∷ [])
 two_columns = refl
 
-name_twice : scope_given (field (97 ∷ []) 7 0 ∷ field (97 ∷ []) 10 1 ∷ []) ≡ Err (at_column BadName 1)
+name_twice : scope_given Plain (field (97 ∷ []) 7 0 ∷ field (97 ∷ []) 10 1 ∷ []) ≡ Err (at_column BadName 1)
 name_twice = refl
 
-no_name : scope_given (field [] 7 0 ∷ []) ≡ Err (at_column BadName 0)
+no_name : scope_given Plain (field [] 7 0 ∷ []) ≡ Err (at_column BadName 0)
 no_name = refl
 
 -- the kind is looked at before the name
-no_kind : scope_given (field (97 ∷ []) 7 0 ∷ field [] 12 0 ∷ []) ≡ Err (at_column BadKind 1)
+no_kind : scope_given Plain (field (97 ∷ []) 7 0 ∷ field [] 17 0 ∷ []) ≡ Err (at_column BadKind 1)
 no_kind = refl
 
 asks_null : predicate_given (byte 97 true ∷ []) (codes "isnull col a") ≡ Ok (is_null (column (record { index = 0; dtype = dtype.Primitive ptype.U8 Nullable })))
@@ -218,13 +219,13 @@ no_flag = refl
 known_flag : with_flags 1 ≡ Ok tt
 known_flag = refl
 
-flag_first : asked (field [] 12 0 ∷ []) (3 ∷ []) [] [] 2 9 ≡ Err (nowhere BadFlag)
+flag_first : asked (field [] 17 0 ∷ []) (3 ∷ []) [] [] 2 9 ≡ Err (nowhere BadFlag)
 flag_first = refl
 
-then_room : asked (field [] 12 0 ∷ []) (3 ∷ []) [] [] 0 9 ≡ Err (nowhere BadLength)
+then_room : asked (field [] 17 0 ∷ []) (3 ∷ []) [] [] 0 9 ≡ Err (nowhere BadLength)
 then_room = refl
 
-then_scope : asked (field [] 12 0 ∷ []) (3 ∷ []) [] [] 0 1 ≡ Err (at_column BadKind 0)
+then_scope : asked (field [] 17 0 ∷ []) (3 ∷ []) [] [] 0 1 ≡ Err (at_column BadKind 0)
 then_scope = refl
 
 then_predicate : asked (field (97 ∷ []) 2 0 ∷ []) (3 ∷ []) (told 1 3 [] [] ∷ []) (codes "col a") 0 1 ≡ Err (nowhere NotAPredicate)
@@ -244,13 +245,13 @@ unfolding is_utf8 chars lib.Utf8.encode
 then_values = refl
 
 -- a scope of a call by SQL has a column
-no_column_given : filled_scope_given [] ≡ Err (nowhere BadLength)
+no_column_given : filled_scope_given Plain [] ≡ Err (nowhere BadLength)
 no_column_given = refl
 
-a_column_given : filled_scope_given (field (97 ∷ []) 2 0 ∷ []) ≡ Ok (byte 97 false ∷ [])
+a_column_given : filled_scope_given Plain (field (97 ∷ []) 2 0 ∷ []) ≡ Ok (byte 97 false ∷ [])
 a_column_given = refl
 
-faults_first : filled_scope_given (field [] 12 0 ∷ []) ≡ Err (at_column BadKind 0)
+faults_first : filled_scope_given Plain (field [] 17 0 ∷ []) ≡ Err (at_column BadKind 0)
 faults_first = refl
 
 -- the numbers of the header

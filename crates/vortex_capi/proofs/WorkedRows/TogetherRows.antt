@@ -37,7 +37,7 @@ no_statistics : together 2 0 3 [] ≡ Ok []
 no_statistics = refl
 
 -- the refusals, in order: the kind, the numbers, the lengths, and the values zone by zone
-bad_kind : together 12 0 1 (told 0 9 [] [] ∷ []) ≡ Err (nowhere BadKind)
+bad_kind : together 17 0 1 (told 0 9 [] [] ∷ []) ≡ Err (nowhere BadKind)
 bad_kind = refl
 
 bad_stat : together 2 0 1 (told 0 3 [] [] ∷ told 0 9 [] [] ∷ []) ≡ Err (at_entry BadStat 1)

@@ -1,11 +1,10 @@
 -- What a caller asks to be pruned by a condition in SQL, and what is answered.
 use Rattle.std.specs.Prelude.{◌≡◌, ◌≢◌, ◌<◌, ◌++◌, ◌==◌, ◌⊎◌, ℕ, List, [], ◌∷◌, Some, Result, Ok, Err, IfOk, IsOk, drop, false, if◌then◌else◌, length, map}
 use Rattle.std.specs.Str.{IsUtf8, IsValidUpTo}
-use Rattle.vortex_base.specs.Data.Scopes.{Named}
 use Rattle.vortex_capi.specs.Spans.{leaf_span}
 use Rattle.vortex_capi.specs.Prunes.{IsToldAs, answered, with_places, zone_answers, zones_asked}
 use Rattle.vortex_capi.specs.Refusals.{followed}
-use Rattle.vortex_capi.specs.Scopes.{filled_scope_given}
+use Rattle.vortex_capi.specs.Scopes.{schema_given}
 use Rattle.vortex_capi.specs.Statuses.{nowhere}
 use Rattle.vortex_capi.specs.declared.fault.Fault.{Fault}
 use Rattle.vortex_capi.specs.declared.fault.Refusal.{Refusal}
@@ -16,12 +15,14 @@ use Rattle.vortex_predicates.specs.Pruning.{IsMadeBy}
 use Rattle.vortex_zone_map.specs.Zone.{ZoneData}
 use Rattle.vortex_sql.specs.Lowering.{opaques}
 use Rattle.vortex_sql.specs.Refusals.{IsTextRefusal, misfits}
+use Rattle.vortex_sql.specs.Schemas.{SchemaData}
 use Rattle.vortex_sql.specs.declared.error.SqlError.{SqlError}
 use Rattle.vortex_sql.specs.declared.error.SqlError.TheVariants as sql
 use Rattle.vortex_predicates.specs.declared.sql.error.ConditionError.{ConditionError}
 use Rattle.vortex_predicates.specs.declared.sql.error.ConditionError.TheVariants.{Sql, Stats}
-use Rattle.vortex_predicates.specs.Conditions.Conditions.{AreProofsOf, IsSoundFor, ProvedCondition, max_levels, pruning_of}
+use Rattle.vortex_predicates.specs.Conditions.Conditions.{AreProofsOf, IsSoundFor, ProvedCondition, max_levels, pruning_of, schema_of}
 use Rattle.vortex_sql.specs.Parsing.Joining.{Joins, ands}
+use Rattle.vortex_sql.specs.Parsing.Naming.{AreNamed}
 use Rattle.vortex_sql.specs.Parsing.Places.{Ascends, leaves}
 use Rattle.vortex_sql.specs.declared.syntax.cursor.Names.{Names}
 use Rattle.vortex_sql.specs.declared.syntax.cursor.Names.TheVariants.{Last, Plain}
@@ -36,25 +37,35 @@ use Rattle.vortex_capi.specs.declared.span.Span.{Span}
 abbrev pub names_of : ℕ → Result Names Refusal
 names_of flags = if flags == 0 then Ok Plain else (if flags == 2 then Ok Last else Err (nowhere BadFlag))
 
--- the scope of the condition, or the first that is refused of the flags, the room for the answers and the scope
-abbrev pub scope_asked : List Field → (rows : List ℕ) → (flags room : ℕ) → Result (List Named) Refusal
-scope_asked fields rows flags room = followed (names_of flags) (λ names. followed (with_places room rows) (λ there. filled_scope_given fields))
+-- over which columns a condition is read, and how names of several parts
+pub record Columns : Type 0 where
+  pub schema : SchemaData
+  pub names : Names
+
+abbrev pub columns_by : SchemaData → Names → Columns
+columns_by schema names = record { schema = schema; names = names }
+
+-- the columns of the condition, or the first that is refused of the flags, the room for the answers and the columns
+abbrev pub columns_asked : List Field → (rows : List ℕ) → (flags room : ℕ) → Result Columns Refusal
+columns_asked fields rows flags room =
+    followed (names_of flags) (λ names. followed (with_places room rows) (λ there. followed (schema_given fields) (λ schema. Ok (columns_by schema names))))
 
 -- ---- the condition
 
--- a condition over a scope that a text is, by its leaves and what joins them, whose types fit, with the proofs by built-in rules of a predicate that means the same
-pub record IsConditionOf (text : List ℕ) (scope : List Named) (x : ProvedCondition) : Type 0 where
+-- a condition over columns that a text is, by its leaves and what joins them, with names read so, whose types fit, with the proofs by built-in rules of a predicate that means the same
+pub record IsConditionOf (text : List ℕ) (columns : Columns) (x : ProvedCondition) : Type 0 where
   pub utf8 : IsUtf8 text
-  pub over : x.scope ≡ scope
+  pub over : schema_of x ≡ columns.schema
+  pub named : AreNamed text columns.names x.condition
   pub places : Ascends 0 (leaves x.condition) (length text)
   pub joined : Joins text 0 (leaves x.condition) (false ∷ ands x.condition)
-  pub typed : misfits scope x.condition ≡ []
+  pub typed : misfits columns.schema x.condition ≡ []
   pub proofs : AreProofsOf x
   pub made : IsMadeBy [] (Some max_levels) (pruning_of x)
 
 -- the leaves of it that aren't read
 abbrev pub unread_of : ProvedCondition → List Leaf
-unread_of x = opaques x.scope x.condition
+unread_of x = opaques (schema_of x) x.condition
 
 -- ---- refusals of the text
 
@@ -98,14 +109,14 @@ pub record IsNoText (text : List ℕ) (r : Refusal) : Type 0 where
   pub no_utf8 : ¬ (IsUtf8 text)
   pub told : r ≡ no_text at
 
--- refused as a condition over the scope is, at the place
-pub record IsSqlRefusal (text : List ℕ) (scope : List Named) (r : Refusal) : Type 0 where
+-- refused as a condition over the columns is, at the place
+pub record IsSqlRefusal (text : List ℕ) (schema : SchemaData) (r : Refusal) : Type 0 where
   pub error : SqlError
-  pub refused : IsTextRefusal text scope error
+  pub refused : IsTextRefusal text schema error
   pub told : r ≡ of_sql error
 
-abbrev pub IsTextFault : List ℕ → List Named → Refusal → Type 0
-IsTextFault text scope r = IsNoText text r ⊎ IsSqlRefusal text scope r
+abbrev pub IsTextFault : List ℕ → SchemaData → Refusal → Type 0
+IsTextFault text schema r = IsNoText text r ⊎ IsSqlRefusal text schema r
 
 -- ---- what a call says
 
@@ -114,49 +125,49 @@ pub record Arrays : Type 0 where
   pub answers : List ℕ
   pub unread : List Span
 
--- the call answered: the text is a condition over the scope, and the arrays have the answer for each zone that its proofs give, and where each leaf stands that isn't read, at the front
-pub record IsAnswered (text : List ℕ) (scope : List Named) (zones : List ZoneData) (old new : Arrays) (count : ℕ) : Type 0 where
+-- the call answered: the text is a condition over the columns, and the arrays have the answer for each zone that its proofs give, and where each leaf stands that isn't read, at the front
+pub record IsAnswered (text : List ℕ) (columns : Columns) (zones : List ZoneData) (old new : Arrays) (count : ℕ) : Type 0 where
   pub condition : ProvedCondition
-  pub of_text : IsConditionOf text scope condition
-  pub answers : new.answers ≡ zone_answers condition.falsifier condition.satisfier scope zones
-  pub sound : IsSoundFor scope condition.condition zones (answered 1 new.answers) (answered 2 new.answers)
+  pub of_text : IsConditionOf text columns condition
+  pub answers : new.answers ≡ zone_answers condition.falsifier condition.satisfier columns.schema.scope zones
+  pub sound : IsSoundFor columns.schema condition.condition zones (answered 1 new.answers) (answered 2 new.answers)
   pub unread : new.unread ≡ map leaf_span (unread_of condition) ++ drop count old.unread
   pub len : count ≡ length (unread_of condition)
 
 -- the room is less than the leaves that aren't read
-pub record IsShort (text : List ℕ) (scope : List Named) (room count : ℕ) : Type 0 where
+pub record IsShort (text : List ℕ) (columns : Columns) (room count : ℕ) : Type 0 where
   pub condition : ProvedCondition
-  pub of_text : IsConditionOf text scope condition
+  pub of_text : IsConditionOf text columns condition
   pub short : room < length (unread_of condition)
   pub len : count ≡ length (unread_of condition)
 
--- the text is a condition over the scope, and the statistics are refused
-pub record AreZonesRefused (text : List ℕ) (scope : List Named) (zones : Result (List ZoneData) Refusal) (result : ℕ) (fault : Fault) : Type 0 where
+-- the text is a condition over the columns, and the statistics are refused
+pub record AreZonesRefused (text : List ℕ) (columns : Columns) (zones : Result (List ZoneData) Refusal) (result : ℕ) (fault : Fault) : Type 0 where
   pub condition : ProvedCondition
-  pub of_text : IsConditionOf text scope condition
+  pub of_text : IsConditionOf text columns condition
   pub refusal : Refusal
   pub refused : zones ≡ Err refusal
   pub told : IsToldAs refusal result fault
 
 -- a fault of the text is told
-pub record IsTextTold (text : List ℕ) (scope : List Named) (result : ℕ) (fault : Fault) : Type 0 where
+pub record IsTextTold (text : List ℕ) (schema : SchemaData) (result : ℕ) (fault : Fault) : Type 0 where
   pub refusal : Refusal
-  pub of_text : IsTextFault text scope refusal
+  pub of_text : IsTextFault text schema refusal
   pub told : IsToldAs refusal result fault
 
--- the arguments ask for these zones of a scope, and are answered
+-- the arguments ask for these zones of columns, and are answered
 pub record AreAnswered (fields : List Field) (rows : List ℕ) (stats : List Statistic) (text : List ℕ) (flags : ℕ) (old new : Arrays) (len : ℕ) : Type 0 where
-  pub scope : List Named
+  pub columns : Columns
   pub zones : List ZoneData
-  pub asked : scope_asked fields rows flags (length old.answers) ≡ Ok scope
-  pub given : zones_asked scope rows stats ≡ Ok zones
-  pub answered : IsAnswered text scope zones old new len
+  pub asked : columns_asked fields rows flags (length old.answers) ≡ Ok columns
+  pub given : zones_asked columns.schema.scope rows stats ≡ Ok zones
+  pub answered : IsAnswered text columns zones old new len
 
--- why a call was refused but for memory, in this order: the flags, the room for the answers or the scope; the text; too little room for the places of what isn't read; the statistics and their values
-abbrev pub IsRefusedFor : Result (List Named) Refusal → List ℕ → List Statistic → List ℕ → (room result len : ℕ) → Fault → Type 0
+-- why a call was refused but for memory, in this order: the flags, the room for the answers or the columns; the text; too little room for the places of what isn't read; the statistics and their values
+abbrev pub IsRefusedFor : Result Columns Refusal → List ℕ → List Statistic → List ℕ → (room result len : ℕ) → Fault → Type 0
 IsRefusedFor (Err r) rows stats text room result len fault = IsToldAs r result fault
-IsRefusedFor (Ok scope) rows stats text room result len fault =
-    IsTextTold text scope result fault ⊎ (((result ≡ 3) × IsShort text scope room len) ⊎ AreZonesRefused text scope (zones_asked scope rows stats) result fault)
+IsRefusedFor (Ok columns) rows stats text room result len fault =
+    IsTextTold text columns.schema result fault ⊎ (((result ≡ 3) × IsShort text columns room len) ⊎ AreZonesRefused text columns (zones_asked columns.schema.scope rows stats) result fault)
 
 -- ---- by a condition
 

@@ -28,8 +28,8 @@ pub(crate) fn asked_of<'a>(
     text: &[u8],
     flags: u8,
 ) -> Result<Asked<'a>, Refusal>
-    ensures read { IfOk result (λ a. spec.IsAsked footer.now text.now (file_view a.file) a.count
-        a.condition.leaves.items a.condition.condition) }
+    ensures read { IfOk result (λ a. spec.IsAsked footer.now text.now flags (file_view a.file)
+        a.count a.condition.leaves.items a.condition.condition) }
     ensures refused { IfErr result (λ r. r.status ≢ NoMemory
         → spec.IsAskRefusal footer.now text.now flags r) }
 {

@@ -28,8 +28,8 @@ fn found_for(alloc: Global, asked: &Asked<'_>) -> Result<Found, FooterError>
         found.groups.items) }
     ensures unread { IfOk result (λ found. found.unread.items
         ≡ map leaf_span (spec.unread_leaves asked.now.condition.condition)) }
-    ensures refused { IfErr result (IsGroupFault (groups_of asked.now.condition.leaves.items
-        asked.now.count (file_view asked.now.file))) }
+    ensures refused { IfErr result (IsGroupFault asked.now.condition.condition
+        (groups_of asked.now.condition.leaves.items asked.now.count (file_view asked.now.file))) }
 {
     let unread = spans_of(alloc, asked.condition.unread())?;
     let pruned = asked.condition.prune(alloc, asked.count, &asked.file)?;

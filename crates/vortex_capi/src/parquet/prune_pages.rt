@@ -6,7 +6,6 @@ ghost use Rattle.vortex_capi.specs.ParquetCalls.FooterPrunes.{unread_leaves};
 ghost use Rattle.vortex_capi.specs.Spans.{leaf_span};
 ghost use Rattle.vortex_capi.specs.ParquetCalls.PagePrunes as spec;
 ghost use Rattle.vortex_predicates.specs.Footers.PagePruning.{IsPageFault};
-ghost use Rattle.vortex_predicates.specs.Footers.PagedGroups.{paged_groups};
 
 use crate::fault::Fault;
 use crate::parquet::asked::{Asked, asked_of};
@@ -31,8 +30,8 @@ fn found_for(alloc: Global, asked: &Asked<'_>, tail: FileTail<'_>) -> Result<Fou
         asked.now.condition.condition found.ranges.items) }
     ensures unread { IfOk result (λ found. found.unread.items
         ≡ map leaf_span (unread_leaves asked.now.condition.condition)) }
-    ensures refused { IfErr result (IsPageFault (paged_groups (tail_view tail.entry)
-        asked.now.condition.leaves.items asked.now.count (file_view asked.now.file))) }
+    ensures refused { IfErr result (IsPageFault asked.now.condition.condition (tail_view tail.entry)
+        asked.now.condition.leaves.items asked.now.count (file_view asked.now.file)) }
 {
     let unread = spans_of(alloc, asked.condition.unread())?;
     let pruned = asked
@@ -102,8 +101,9 @@ pub fn prune_pages(
 ) -> u8
     // Of an answer: the bytes are a footer, and the text is a condition over its columns. The
     // arrays have what is told of each stretch of rows, and where each leaf stands that isn't read.
-    // If the statistics of its pages are true of the rows of a row group, then whatever those
-    // leaves mean, of a skipped stretch none satisfies the condition, and of a whole one each does.
+    // If the footer's statistics and those of its pages are true of the rows of a row group, then
+    // whatever those leaves mean, of a skipped stretch none satisfies the condition, and of a whole
+    // one each does. No fewer rows are skipped or whole than by the footer alone.
     // Of a refusal the arrays are as they were, and but for memory its cause is told, the first.
     ensures { spec.ArePagesPruned footer.now text.now
         (record { begin = tail_begin; bytes = tail.now }) flags

@@ -10,9 +10,9 @@ use crate::sql::refusal::{no_text, of_sql};
 use crate::status::Status;
 use std::alloc::Global;
 use std::str;
-use vortex_base::scope::Scope;
 use vortex_predicates::{ConditionError, PruningCondition};
 use vortex_prune::Rules;
+use vortex_sql::schema::Schema;
 use vortex_sql::syntax::parse::Names;
 
 /// Returns how names of several parts are read, or refuses a flag that isn't known.
@@ -48,21 +48,22 @@ fn refusal_of(error: ConditionError) -> Refusal
     }
 }
 
-/// Returns the condition over a scope that a text is, with its proofs by built-in rules.
+/// Returns the condition over columns that a text is, with its proofs by built-in rules.
 pub(crate) fn condition_given(
     alloc: Global,
-    scope: &Scope,
+    schema: Schema,
     text: &[u8],
     names: Names,
 ) -> Result<PruningCondition, Refusal>
-    ensures read { IfOk result (spec.IsConditionOf text.now scope.now) }
+    ensures read { IfOk result
+        (spec.IsConditionOf text.now (spec.columns_by schema names)) }
     ensures closed { IfOk result (λ x. AreClosed x.falsifier x.satisfier) }
     ensures refused { IfErr result (λ r. r.status ≢ NoMemory
-        → spec.IsTextFault text.now scope.now r) }
+        → spec.IsTextFault text.now schema r) }
 {
     let text = text_of(text)?;
     let rules = Rules::builtin(alloc);
-    match PruningCondition::try_new(alloc, text, scope, names, &rules) {
+    match PruningCondition::try_new(alloc, text, schema, names, &rules) {
         Ok(condition) => Ok(condition),
         Err(error) => Err(refusal_of(error)),
     }

@@ -6,32 +6,33 @@ ghost use Rattle.vortex_capi.specs.SqlCalls.SqlPrunes as spec;
 
 use crate::by_proofs::answers_by_proofs;
 use crate::fault::{Fault, Refusal};
-use crate::field::{Field, scope_given};
+use crate::field::{Field, schema_given};
 use crate::span::{Span, put_places};
 use crate::sql::condition::{condition_given, names_of};
 use crate::statistic::Statistic;
 use crate::status::Status;
 use std::alloc::Global;
-use vortex_base::scope::Scope;
 use vortex_predicates::PruningCondition;
+use vortex_sql::schema::Schema;
 use vortex_sql::syntax::parse::Names;
 
-// Returns the scope of the condition, and how it writes names.
-fn scope_asked(
+// Returns the columns of the condition, and how it writes names.
+fn columns_asked(
     alloc: Global,
     fields: &[Field<'_>],
     rows: &[u64],
     flags: u8,
     room: usize,
-) -> Result<(Scope, Names), Refusal>
-    ensures read { Answers (λ x. x.0) result (spec.scope_asked fields.now rows.now flags room) }
+) -> Result<(Schema, Names), Refusal>
+    ensures read { Answers (λ x. spec.columns_by x.0 x.1) result
+        (spec.columns_asked fields.now rows.now flags room) }
     ensures room { IfOk result (λ _. room ≡ length rows.now) }
 {
     let names = names_of(flags)?;
     if room != rows.len() {
         return Err(Refusal::at_entry(Status::BadLength, 0));
     }
-    Ok((scope_given(alloc, fields)?, names))
+    Ok((schema_given(alloc, fields)?, names))
 }
 
 // Returns the answers by the proofs of a condition.
@@ -98,7 +99,7 @@ pub fn prune_sql(
     len: &mut usize,
     fault: &mut Fault,
 ) -> u8
-    // Of an answer: the text is a condition over the scope. The arrays have the answer for each
+    // Of an answer: the text is a condition over the columns. The arrays have the answer for each
     // zone that its proofs give, and where each leaf stands that isn't read. Whatever rows a zone
     // holds, if its statistics are true of them, and whatever those leaves mean: of a skipped zone
     // none satisfies the condition, and of a whole one each does.
@@ -114,12 +115,12 @@ pub fn prune_sql(
     ensures told { result ≡ 0 → fault.new ≡ fault.old }
     // A refusal other than for memory has its cause, the first of several.
     ensures refused { result ≢ 0 → result ≢ 4 → spec.IsRefusedFor
-        (spec.scope_asked scope.now rows.now flags (length answers.old)) rows.now stats.now
+        (spec.columns_asked scope.now rows.now flags (length answers.old)) rows.now stats.now
         text.now (length unread.old) result len.new fault.new }
 {
-    match scope_asked(alloc, scope, rows, flags, answers.len()) {
-        Ok((scope, names)) => {
-            let condition = match condition_given(alloc, &scope, text, names) {
+    match columns_asked(alloc, scope, rows, flags, answers.len()) {
+        Ok((schema, names)) => {
+            let condition = match condition_given(alloc, schema, text, names) {
                 Ok(condition) => condition,
                 Err(refusal) => return refusal.tell(fault),
             };

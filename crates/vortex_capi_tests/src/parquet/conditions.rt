@@ -50,3 +50,13 @@ fn row_groups_are_judged(rt: HostRuntime) {
     expect_verdicts(&rt, alloc, "1 = 1", &[Verdict::Whole, Verdict::Whole], 0);
     expect_verdicts(&rt, alloc, "u >= 0 AND s IS NOT NULL", &[rest, rest], 0);
 }
+
+#[test]
+fn required_column_has_no_nulls(rt: HostRuntime) {
+    let alloc = rt.alloc();
+    let rest = Verdict::Tested;
+    // Of the second row group nothing is known of `s`.
+    expect_verdicts(&rt, alloc, "s >= 'b'", &[Verdict::Whole, rest], 0);
+    expect_verdicts(&rt, alloc, "s IS NOT NULL", &[Verdict::Whole, rest], 0);
+    expect_verdicts(&rt, alloc, "s < 'c'", &[rest, rest], 0);
+}

@@ -75,7 +75,9 @@ fn expect_first(rt: &impl Abort, group: &GroupStats) {
     expect_value(rt, group, 0, Stat::Max, max);
     expect_value(rt, group, 0, Stat::Min, min);
     expect_value(rt, group, 0, Stat::NullCount, nulls);
-    expect_value(rt, group, 1, Stat::NullCount, Precision::Absent);
+    // The column is REQUIRED, and its statistics tell no null count.
+    let none = Precision::Exact(number(PValue::U64(0)));
+    expect_value(rt, group, 1, Stat::NullCount, none);
     expect_value(rt, group, 2, Stat::Max, Precision::Absent);
 }
 

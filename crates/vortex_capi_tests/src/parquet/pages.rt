@@ -5,7 +5,7 @@ use std::process::Abort;
 use vortex_base::pvalue::PValue;
 use vortex_base::scalar_value::ScalarValue;
 use vortex_base::text::Text;
-use vortex_base::types::PType;
+use vortex_base::types::{Nullability, PType};
 use vortex_parquet::column_index::column_index_of;
 use vortex_parquet::columns::Form;
 use vortex_parquet::offset_index::{IndexPlaces, PageLocation, offset_index_of, places_of};
@@ -45,7 +45,7 @@ fn pages<'a>(
 ) -> Result<Vec<Page<'a>>, ReadError> {
     let index = column_index_of(alloc, index)?;
     let locations = offset_index_of(alloc, offsets)?;
-    pages_of(alloc, rows, &index, &locations)
+    pages_of(alloc, rows, Nullability::Nullable, &index, &locations)
 }
 
 fn stretches(alloc: Global) -> Result<Vec<GroupStats>, ReadError> {

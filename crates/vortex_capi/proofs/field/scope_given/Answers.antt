@@ -10,4 +10,4 @@ pub new_unchecked-requires : goal.new_unchecked-requires
 new_unchecked-requires c =
     let cs = c.in_ok-columns.columns in
     let some : (length cs == 0) ≡ false = ap (λ (l : List (String Global × DType)). length l == 0) (sym c.as_slice.ensures) ∙ sym c.is_empty.ensures ∙ c.if-is_empty.false in
-    ap (λ l. is_scope (named_columns l)) c.into_vec.ensures ∙ given_is_scope c.args.fields.now (named_columns cs) c.in_ok-columns.ensures (some_columns cs some)
+    ap (λ l. is_scope (named_columns l)) c.into_vec.ensures ∙ given_is_scope c.args.kinds c.args.fields.now (named_columns cs) c.in_ok-columns.ensures (some_columns cs some)

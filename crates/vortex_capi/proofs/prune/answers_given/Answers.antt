@@ -2,6 +2,7 @@ use Rattle.std.proofs.Common.{ap, ◌∙◌}
 use Rattle.vortex_base.specs.Data.Scopes.{is_scope, named_columns}
 use Rattle.vortex_expr.specs.Meanings.Fitting.{fits_scope}
 use Rattle.vortex_capi.proofs.ScopeLemmas.{given_is_predicate, given_is_scope, halved_is_over}
+use Rattle.vortex_capi.specs.declared.logical.Kinds.TheVariants.{Plain}
 use Rattle.vortex_capi.proofs.prune.answers_given.Goals as goal
 
 pub new_unchecked-requires : goal.new_unchecked-requires
@@ -9,7 +10,7 @@ new_unchecked-requires c =
     let scope = named_columns c.in_ok-columns.columns in
     let given = c.in_ok-predicate.ensures in
     let over = given_is_predicate scope c.args.text.now given.0 given.1 in
-    ap (λ l. is_scope (named_columns l)) c.into_vec.ensures ∙ given_is_scope c.args.fields.now scope c.in_ok-columns.ensures over.some
+    ap (λ l. is_scope (named_columns l)) c.into_vec.ensures ∙ given_is_scope Plain c.args.fields.now scope c.in_ok-columns.ensures over.some
 
 pub predicate_answers-requires-clause-plain : goal.predicate_answers-requires-clause-plain
 predicate_answers-requires-clause-plain c =

@@ -1,4 +1,4 @@
-use Rattle.std.proofs.Common.{List, ap, map, subst, sym, ◌∙◌}
+use Rattle.std.proofs.Common.{List, [], ap, map, subst, sym, ◌∙◌}
 use Rattle.std.proofs.lemmas.Result.{err_from_is_err_and}
 use Rattle.std.specs.Prelude.{ℕ}
 use Rattle.vortex_parquet.specs.Columns.{column_views, columns_of}
@@ -20,4 +20,4 @@ returns-clause-refused c = λ n.
     let columns = c.in-Ok-columns_of.columns in
     condition_refused c.args.footer.now c.args.text.now c.args.flags (file_view c.in-Ok.file) (column_views columns.columns.items) columns.leaves c.in-Err-try_new.error c.of_footer.result c.in-Ok.ensures
     (ap (λ (es : List SchemaElement). columns_of (map element_view es)) (sym c.deref.ensures.value) ∙ c.in-Ok-columns_of.ensures) c.in_ok-text.ensures.utf8
-    (subst (λ (bytes : List ℕ). IsToldOf (column_views columns.columns.items) bytes c.in-Err-try_new.error) c.in_ok-text.ensures.text c.in-Err-try_new.ensures.refused) c.of_footer.ensures
+    (subst (λ (bytes : List ℕ). IsToldOf [] (column_views columns.columns.items) columns.leaves bytes c.in-Err-try_new.error) c.in_ok-text.ensures.text (rw c.builtin-rules.ensures at c.in-Err-try_new.ensures.refused)) c.of_footer.ensures

@@ -1,3 +1,4 @@
+use Rattle.vortex_predicates.specs.Conditions.Conditions.{schema_of}
 use Rattle.std.proofs.Common.{List, ap, ap₂, map, ◌∙◌}
 use Rattle.std.specs.Prelude.{ℕ}
 use Rattle.vortex_parquet.specs.Records.{file_view}
@@ -20,4 +21,4 @@ returns-clause-groups c =
 pub returns-clause-unread : goal.returns-clause-unread
 returns-clause-unread c =
     let x = c.args.asked.now.condition.condition in
-    c.in_ok-unread.ensures ∙ ap (λ (places : List (ℕ × ℕ)). map span_at places) c.unread.ensures ∙ spans_told (opaques x.scope x.condition)
+    c.in_ok-unread.ensures ∙ ap (λ (places : List (ℕ × ℕ)). map span_at places) c.unread.ensures ∙ spans_told (opaques (schema_of x) x.condition)

@@ -1,3 +1,4 @@
+use Rattle.vortex_predicates.specs.Conditions.Conditions.{schema_of}
 use Rattle.std.proofs.Common.{List, ap, ap₂, map, ◌∙◌}
 use Rattle.std.specs.Prelude.{ℕ}
 use Rattle.vortex_parquet.specs.GroupPages.{tail_view}
@@ -15,10 +16,10 @@ pub returns-clause-ranges : goal.returns-clause-ranges
 returns-clause-ranges c =
     let a = c.args.asked.now in
     let h = c.in_ok-pruned.ensures in
-    ranges_of (tail_view c.args.tail) (file_view a.file) a.count a.condition.leaves.items a.condition.condition c.in_ok-pruned.pruned.ranges.items c.in_ok-pruned.pruned.stretches.items c.in_ok-pruned.pruned.verdicts.items c.in_ok-ranges.ranges.items h.known h.verdicts h.sound h.placed h.long
+    ranges_of (tail_view c.args.tail) (file_view a.file) a.count a.condition.leaves.items a.condition.condition c.in_ok-pruned.pruned.ranges.items c.in_ok-pruned.pruned.stretches.items c.in_ok-pruned.pruned.groups.groups.items c.in_ok-pruned.pruned.verdicts.items c.in_ok-pruned.pruned.groups.verdicts.items c.in_ok-ranges.ranges.items h.known h.groups h.judged h.verdicts h.no_fewer h.sound h.placed h.long
     (c.in_ok-ranges.ensures ∙ ap₂ (λ (rs : List PageRange) (vs : List Verdict). all_ranges_of rs vs) c.deref.ensures.value c.deref-2.ensures.value)
 
 pub returns-clause-unread : goal.returns-clause-unread
 returns-clause-unread c =
     let x = c.args.asked.now.condition.condition in
-    c.in_ok-unread.ensures ∙ ap (λ (places : List (ℕ × ℕ)). map span_at places) c.unread.ensures ∙ spans_told (opaques x.scope x.condition)
+    c.in_ok-unread.ensures ∙ ap (λ (places : List (ℕ × ℕ)). map span_at places) c.unread.ensures ∙ spans_told (opaques (schema_of x) x.condition)
