@@ -7,7 +7,7 @@ use clap::error::ErrorKind;
 use clap::{Arg, ArgAction, ArgMatches, Command, Error};
 use std::alloc::Global;
 
-const VERSION: &str = "0.2.0";
+const VERSION: &str = "0.3.0";
 
 const ABOUT: &str =
     "Prunes columnar data by its statistics, with every function proved to meet its contract";

@@ -8,6 +8,7 @@ mod pruning;
 mod scanning;
 mod showing;
 mod underlining;
+mod values;
 
 use command::{Request, requested, status_of};
 use pruning::prune_files;

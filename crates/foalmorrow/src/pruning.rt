@@ -108,7 +108,14 @@ fn answer_of<'a, E: Sink>(
     let found = condition.prune(alloc, columns.leaves, &data)?;
     if asked.is_explained {
         let names = names_of(alloc, condition.condition.scope())?;
-        write_known(alloc, file, &names, &found.groups, reasons)?;
+        write_known(
+            alloc,
+            file,
+            &names,
+            &condition.leaves,
+            &found.groups,
+            reasons,
+        )?;
         let shown = underlined(alloc, asked.condition, condition.unread())?;
         write_out(reasons, shown.as_bytes());
     }

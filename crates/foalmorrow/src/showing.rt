@@ -66,7 +66,7 @@ fn show_file<F: Files, W: Sink>(
     let read = read_columns(alloc, &columns)?;
     let groups = groups_of(alloc, &read.leaves, columns.leaves, &data)?;
     Ok(
-        write_known(alloc, file, &read.names, &groups, writer)?
+        write_known(alloc, file, &read.names, &read.leaves, &groups, writer)?
             && write_out(writer, read.left_out.as_bytes()),
     )
 }
