@@ -379,7 +379,7 @@ static const uint8_t KINDS[COLUMNS] = {VORTEX_I8, VORTEX_I8, VORTEX_BOOL, VORTEX
 static uint8_t pruned(const zone *zones, size_t len, const vortex_statistic *stats, const uint8_t *text, size_t text_len, uint8_t flags, uint8_t *answers) {
     vortex_field scope[COLUMNS];
     uint64_t rows[ZONES] = {0};
-    for (int c = 0; c < COLUMNS; c++) scope[c] = (vortex_field){(const uint8_t *)NAMES[c], 1, KINDS[c], 1};
+    for (int c = 0; c < COLUMNS; c++) scope[c] = (vortex_field){.name = (const uint8_t *)NAMES[c], .name_len = 1, .kind = KINDS[c], .nullable = 1};
     for (size_t z = 0; z < len; z++) rows[z] = zones[z].len;
     vortex_fault fault;
     return vortex_prune(scope, COLUMNS, rows, len, stats, COLUMNS * STATS, text, text_len, flags, answers, len, &fault);
@@ -389,7 +389,7 @@ static uint8_t pruned_by_sql(const zone *zones, size_t len, const vortex_statist
                              vortex_span *unread, size_t *count) {
     vortex_field scope[COLUMNS];
     uint64_t rows[ZONES] = {0};
-    for (int c = 0; c < COLUMNS; c++) scope[c] = (vortex_field){(const uint8_t *)NAMES[c], 1, KINDS[c], 1};
+    for (int c = 0; c < COLUMNS; c++) scope[c] = (vortex_field){.name = (const uint8_t *)NAMES[c], .name_len = 1, .kind = KINDS[c], .nullable = 1};
     for (size_t z = 0; z < len; z++) rows[z] = zones[z].len;
     vortex_fault fault = {0};
     uint8_t status = vortex_prune_sql(scope, COLUMNS, rows, len, stats, COLUMNS * STATS, (const uint8_t *)text, text_len, 0, answers, len,

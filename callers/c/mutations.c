@@ -42,7 +42,7 @@ typedef struct call {
     uint32_t statuses;
     input inputs[20];
     output outputs[3];
-    number numbers[20];
+    number numbers[24];
     /* The place of the output whose length the call tells. */
     int len_of;
 } call;
@@ -173,7 +173,7 @@ static void mutate(call *of, uint8_t first) {
         change_length(of, &of->inputs[i], of->inputs[i].count);
     }
     for (size_t i = 0; i < 3 && of->outputs[i].width; i++) change_length(of, &of->outputs[i], of->outputs[i].count);
-    for (size_t i = 0; i < 20 && of->numbers[i].width; i++) change_number(of, &of->numbers[i]);
+    for (size_t i = 0; i < 24 && of->numbers[i].width; i++) change_number(of, &of->numbers[i]);
     assert(try(of, NONE) == first);
     if (seen != of->statuses) fprintf(stderr, "%s: statuses %x are met, of %x\n", of->name, (unsigned)seen, (unsigned)of->statuses);
     assert(seen == of->statuses);
@@ -232,6 +232,7 @@ static uint8_t make_run(void) { return vortex_run(text, text_len, bytes, bytes_l
 #define ARROW_NUMBERS \
     {&arrow.kind, 1}, {&arrow.nullable, 1}, {&arrow.offset_width, 1}, {&arrow.rows, 8}, {&arrow.offset, 8}, {&arrow.size, 8}
 #define STAT_NUMBERS(it) {&(it).column, 8}, {&(it).stat, 1}, {&(it).start, 8}
+#define FIELD_NUMBERS(it) {&(it).kind, 1}, {&(it).nullable, 1}, {&(it).unit, 1}, {&(it).precision, 1}, {&(it).scale, 1}
 #define OUTPUTS(stats, room) \
     {{stats, 1, &known, &known_len}, {stats, 8, &ends, &ends_len}, {room, 1, &bytes, &bytes_len}}
 #define WANTED(in, n) {.bytes = in, .count = n, .width = 1, .pointer = &wanted, .len = &wanted_len}
@@ -390,7 +391,7 @@ static void prune_a_table(void) {
                 KNOWN(left[0], "\1\2\0", 3), VALUES(left[0], least, 12), KNOWN(left[1], "\1\1\1", 3), VALUES(left[1], nulls, 24),
                 KNOWN(left[2], "\1\0\1", 3), VALUES(left[2], "?cxbee", 6), ENDS(left[2], text_ends, 3), ENDS(left[0], NULL, 0)},
                {{3, 1, &answers, &answers_len}},
-               {{&scope[0].kind, 1}, {&scope[0].nullable, 1}, {&scope[1].kind, 1}, {&scope[1].nullable, 1}, STAT_NUMBERS(left[0]),
+               {FIELD_NUMBERS(scope[0]), FIELD_NUMBERS(scope[1]), STAT_NUMBERS(left[0]),
                 STAT_NUMBERS(left[1]), STAT_NUMBERS(left[2]), {&flags, 1}}, 0};
     for (flags = 0; flags <= VORTEX_NORMALIZE; flags++) mutate(&of, VORTEX_OK);
     flags = 0;
@@ -413,10 +414,34 @@ static void prune_by_sql(void) {
                 KNOWN(left[0], "\1\2\0", 3), VALUES(left[0], least, 12), KNOWN(left[1], "\1\1\1", 3), VALUES(left[1], nulls, 24),
                 KNOWN(left[2], "\1\0\1", 3), VALUES(left[2], "?cxbee", 6), ENDS(left[2], text_ends, 3), ENDS(left[0], NULL, 0)},
                {{3, 1, &answers, &answers_len}, {1, sizeof(vortex_span), &unread, &unread_len}},
-               {{&scope[0].kind, 1}, {&scope[0].nullable, 1}, {&scope[1].kind, 1}, {&scope[1].nullable, 1}, STAT_NUMBERS(left[0]),
+               {FIELD_NUMBERS(scope[0]), FIELD_NUMBERS(scope[1]), STAT_NUMBERS(left[0]),
                 STAT_NUMBERS(left[1]), STAT_NUMBERS(left[2]), {&flags, 1}}, 1};
     for (flags = 0; flags <= VORTEX_LAST_NAME; flags += VORTEX_LAST_NAME) mutate(&of, VORTEX_OK);
     flags = 0;
+}
+
+/* Columns of dates and of decimals. */
+static void prune_logical_by_sql(void) {
+    static const char condition[] = "d >= DATE '1970-01-13' AND p BETWEEN 1.5 AND 2e0 OR f(d) = 1";
+    static const uint64_t rows[3] = {4, 0, 7};
+    static const int32_t days[3] = {-5, 10, 20};
+    static const int64_t cents[3] = {150, 199, 201};
+    scope[0] = (vortex_field){.kind = VORTEX_DATE};
+    scope[1] = (vortex_field){.kind = VORTEX_DECIMAL, .nullable = 1, .precision = 9, .scale = 2};
+    left[0] = (vortex_statistic){.column = 0, .stat = VORTEX_MIN};
+    left[1] = (vortex_statistic){.column = 1, .stat = VORTEX_MIN};
+    left[2] = (vortex_statistic){.column = 1, .stat = VORTEX_MAX};
+    call of = {"prune logical types by SQL", make_prune_sql,
+               (MERGE_STATUSES & ~BIT(VORTEX_BAD_ENDS) & ~BIT(VORTEX_BAD_VALUE)) | BIT(VORTEX_BAD_COLUMN) | BIT(VORTEX_BAD_NAME) | BIT(VORTEX_BAD_FLAG) | BIT(VORTEX_BAD_SQL) |
+                   BIT(VORTEX_MISFIT),
+               {NAME(scope[0], "d"), NAME(scope[1], "p"), TEXT(condition),
+                {.bytes = rows, .count = 3, .width = 8, .pointer = &zone_rows, .len = &zone_rows_len},
+                KNOWN(left[0], "\1\2\0", 3), VALUES(left[0], days, 12), KNOWN(left[1], "\1\1\1", 3), VALUES(left[1], cents, 24),
+                KNOWN(left[2], "\1\0\1", 3), VALUES(left[2], cents, 24), ENDS(left[2], NULL, 0), ENDS(left[0], NULL, 0)},
+               {{3, 1, &answers, &answers_len}, {1, sizeof(vortex_span), &unread, &unread_len}},
+               {FIELD_NUMBERS(scope[0]), FIELD_NUMBERS(scope[1]), STAT_NUMBERS(left[0]), STAT_NUMBERS(left[1]), STAT_NUMBERS(left[2]),
+                {&flags, 1}}, 1};
+    mutate(&of, VORTEX_OK);
 }
 
 static void run_texts(void) {
@@ -444,6 +469,7 @@ int main(void) {
     merge_a_table();
     prune_a_table();
     prune_by_sql();
+    prune_logical_by_sql();
     run_texts();
     printf("mutations: %lu calls over changed arrays are answered by a status\n", calls);
     return 0;

@@ -41,7 +41,9 @@ static void layout(void) {
                        offsetof(vortex_statistic, values) == 40 && offsetof(vortex_statistic, values_len) == 48 &&
                        offsetof(vortex_statistic, ends) == 56 && offsetof(vortex_statistic, ends_len) == 64, "vortex_statistic");
     _Static_assert(sizeof(vortex_field) == 24 && offsetof(vortex_field, name) == 0 && offsetof(vortex_field, name_len) == 8 &&
-                       offsetof(vortex_field, kind) == 16 && offsetof(vortex_field, nullable) == 17, "vortex_field");
+                       offsetof(vortex_field, kind) == 16 && offsetof(vortex_field, nullable) == 17 &&
+                       offsetof(vortex_field, unit) == 18 && offsetof(vortex_field, precision) == 19 &&
+                       offsetof(vortex_field, scale) == 20, "vortex_field");
     _Static_assert(sizeof(vortex_span) == 16 && offsetof(vortex_span, start) == 0 && offsetof(vortex_span, end) == 8, "vortex_span");
 }
 
@@ -64,6 +66,9 @@ static void every_number(void) {
     numbers(VORTEX_I32, 4, (int32_t[]){5, INT32_MIN}, &(int32_t){INT32_MIN}, &(int32_t){5});
     numbers(VORTEX_I64, 8, (int64_t[]){INT64_MAX, INT64_MIN}, &(int64_t){INT64_MIN}, &(int64_t){INT64_MAX});
     numbers(VORTEX_BOOL, 1, (uint8_t[]){1, 0}, &(uint8_t){0}, &(uint8_t){1});
+    numbers(VORTEX_DATE, 4, (int32_t[]){5, INT32_MIN}, &(int32_t){INT32_MIN}, &(int32_t){5});
+    for (uint8_t kind = VORTEX_TIME; kind <= VORTEX_DECIMAL; kind++)
+        numbers(kind, 8, (int64_t[]){INT64_MAX, INT64_MIN}, &(int64_t){INT64_MIN}, &(int64_t){INT64_MAX});
 }
 
 /* Every field of a column counts: rows, size, start, values, ends and nulls. */
@@ -125,7 +130,7 @@ static void every_length(vortex_values good) {
 static void every_refusal(void) {
     vortex_values good = {.kind = VORTEX_I16, .nullable = 1, .rows = 2, .values = (const uint8_t *)"abcd", .values_len = 4};
     vortex_values bad = good;
-    bad.kind = 12;
+    bad.kind = 17;
     refused(measure(&bad, every_stat, 8), VORTEX_BAD_KIND, 0, 0);
     bad.kind = VORTEX_I16, bad.nullable = 2;
     refused(measure(&bad, every_stat, 8), VORTEX_BAD_KIND, 0, 0);
@@ -181,7 +186,7 @@ static void arrow_numbers(void) {
     column.rows = 1;
     refused(measure_arrow(&column, least_greatest_nulls, 3), VORTEX_BAD_LENGTH, 0, 0);
     refused(measure_arrow(&column, (const uint8_t[]){VORTEX_MIN, 9}, 2), VORTEX_BAD_STAT, 0, 1);
-    column.kind = 12;
+    column.kind = 17;
     refused(measure_arrow(&column, least_greatest_nulls, 3), VORTEX_BAD_KIND, 0, 0);
 }
 
@@ -330,7 +335,7 @@ static void every_merge(void) {
     assert(memcmp(bytes, "beeaa\3\0\0\0\0\0\0\0", 13) == 0);
     assert(MERGE(0, 0) == VORTEX_OK && len == 0);
     known[0] = 99, ends[0] = 99, bytes[0] = 99;
-    assert(vortex_merge(12, 1, 2, it.left, 2, it.right, 2, known, 4, ends, 4, bytes, sizeof bytes, &len, &fault) == VORTEX_BAD_KIND);
+    assert(vortex_merge(17, 1, 2, it.left, 2, it.right, 2, known, 4, ends, 4, bytes, sizeof bytes, &len, &fault) == VORTEX_BAD_KIND);
     refused(vortex_merge(VORTEX_UTF8, 1, 2, it.left, 2, it.right, 1, known, 4, ends, 4, bytes, sizeof bytes, &len, &fault),
             VORTEX_BAD_LENGTH, 0, 1);
     assert(vortex_merge(VORTEX_UTF8, 1, 2, it.left, 2, it.right, 2, known, 3, ends, 4, bytes, sizeof bytes, &len, &fault) ==
@@ -494,7 +499,11 @@ static void every_bad_question(void) {
     assert(PRUNE("isnull col a", 0) == VORTEX_BAD_NAME && fault.column == 1);
     it.scope[1].name_len = 0;
     assert(PRUNE("isnull col a", 0) == VORTEX_BAD_NAME && fault.column == 1);
-    it.scope[1].name = (const uint8_t *)"b", it.scope[1].name_len = 1, it.scope[1].kind = 12;
+    it.scope[1].name = (const uint8_t *)"b", it.scope[1].name_len = 1, it.scope[1].kind = 17;
+    assert(PRUNE("isnull col a", 0) == VORTEX_BAD_KIND && fault.column == 1);
+    it.scope[1].kind = VORTEX_BINARY, it.scope[1].unit = VORTEX_SECONDS;
+    assert(PRUNE("isnull col a", 0) == VORTEX_BAD_KIND && fault.column == 1);
+    it.scope[1].unit = 0, it.scope[1].kind = VORTEX_DATE;
     assert(PRUNE("isnull col a", 0) == VORTEX_BAD_KIND && fault.column == 1);
     it.scope[1].kind = VORTEX_UTF8, it.scope[1].nullable = 2;
     assert(PRUNE("isnull col a", 0) == VORTEX_BAD_KIND && fault.column == 1);
@@ -566,6 +575,57 @@ static void every_condition(void) {
     assert(vortex_prune_sql(it.scope, 2, NULL, 0, NULL, 0, (const uint8_t *)"a > 1", 5, 0, NULL, 0, NULL, 0, &len, &fault) == VORTEX_OK);
 }
 
+/* The answers for two zones of a column of whole numbers of 64 bits, 100 to 199 and 200 to 299. */
+static void logical(vortex_field field, const char *text, uint8_t first, uint8_t second) {
+    static const int64_t least[2] = {100, 200}, greatest[2] = {199, 299};
+    field.name = (const uint8_t *)"a", field.name_len = 1;
+    const vortex_statistic stats[2] = {
+        {.stat = VORTEX_MIN, .known = (const uint8_t *)"\1\1", .known_len = 2, .values = (const uint8_t *)least, .values_len = 16},
+        {.stat = VORTEX_MAX, .known = (const uint8_t *)"\1\1", .known_len = 2, .values = (const uint8_t *)greatest, .values_len = 16}};
+    memset(answers, 9, sizeof answers);
+    assert(vortex_prune_sql(&field, 1, zone_rows, 2, stats, 2, (const uint8_t *)text, strlen(text), 0, answers, 2, unread, 4, &len, &fault) == VORTEX_OK);
+    assert(len == 0 && answers[0] == first && answers[1] == second);
+}
+
+#define TIMED(kind_, unit_) ((vortex_field){.kind = (kind_), .unit = (unit_)})
+#define DECIMALS(precision_, scale_) ((vortex_field){.kind = VORTEX_DECIMAL, .precision = (precision_), .scale = (scale_)})
+
+/* Columns of each logical type compare by what their numbers stand for. */
+static void every_logical_kind(void) {
+    table it = zones_told();
+    it.scope[0].kind = VORTEX_DATE;
+    assert(SQL("a >= DATE '1970-01-11' AND a < '1970-01-22'") == VORTEX_OK && len == 0);
+    ANSWERS(VORTEX_SKIP, VORTEX_WHOLE, VORTEX_READ);
+    logical(TIMED(VORTEX_TIME, VORTEX_SECONDS), "a < TIME '00:03:20'", VORTEX_READ, VORTEX_SKIP);
+    logical(TIMED(VORTEX_TIME, VORTEX_MILLISECONDS), "a < TIME '00:00:00.2'", VORTEX_READ, VORTEX_SKIP);
+    logical(TIMED(VORTEX_TIME, VORTEX_MICROSECONDS), "a < '00:00:00.0002'", VORTEX_READ, VORTEX_SKIP);
+    logical(TIMED(VORTEX_TIME, VORTEX_NANOSECONDS), "a < '00:00:00.0000002'", VORTEX_READ, VORTEX_SKIP);
+    logical(TIMED(VORTEX_TIMESTAMP, VORTEX_SECONDS), "a < TIMESTAMP '1970-01-01 00:03:20'", VORTEX_READ, VORTEX_SKIP);
+    logical(TIMED(VORTEX_TIMESTAMP_TZ, VORTEX_SECONDS), "a < TIMESTAMPTZ '1970-01-01 01:03:20+01'", VORTEX_READ, VORTEX_SKIP);
+    logical(DECIMALS(9, 2), "a < 2", VORTEX_READ, VORTEX_SKIP);
+    logical(DECIMALS(18, 0), "a < 1.5e2", VORTEX_READ, VORTEX_SKIP);
+    const vortex_field refused_fields[] = {
+        {.kind = 17},
+        {.kind = VORTEX_I64, .unit = VORTEX_SECONDS},
+        {.kind = VORTEX_I64, .precision = 1},
+        {.kind = VORTEX_I64, .scale = 1},
+        {.kind = VORTEX_DATE, .unit = VORTEX_SECONDS},
+        {.kind = VORTEX_TIME},
+        {.kind = VORTEX_TIMESTAMP, .unit = 5},
+        {.kind = VORTEX_TIMESTAMP_TZ, .unit = VORTEX_SECONDS, .scale = 1},
+        {.kind = VORTEX_DECIMAL},
+        {.kind = VORTEX_DECIMAL, .precision = 19},
+        {.kind = VORTEX_DECIMAL, .precision = 9, .scale = 39},
+        {.kind = VORTEX_DECIMAL, .unit = VORTEX_SECONDS, .precision = 9}};
+    it = zones_told();
+    for (size_t i = 0; i < sizeof refused_fields / sizeof *refused_fields; i++) {
+        vortex_field field = refused_fields[i];
+        field.name = (const uint8_t *)"b", field.name_len = 1;
+        it.scope[1] = field;
+        assert(SQL("a > 3") == VORTEX_BAD_KIND && fault.column == 1 && len == 77);
+    }
+}
+
 /* A text that is refused from one byte on up to another, or none, and for a reason by its number. */
 static void no_condition(const char *text, uint8_t status, size_t start, size_t end, size_t why) {
     table it = zones_told();
@@ -590,6 +650,9 @@ static void every_bad_condition(void) {
     no_condition("b = 'x' 'y'", VORTEX_BAD_SQL, 8, 0, VORTEX_ADJACENT);
     no_condition("a > 1 OR b = '\xff'", VORTEX_BAD_SQL, 14, 0, VORTEX_NO_UTF8);
     no_condition("a > 1 OR b = 3 OR a = 'x'", VORTEX_MISFIT, 9, 14, 0);
+    it.scope[0].kind = VORTEX_DATE;
+    assert(SQL("b = 'x' OR a > 3") == VORTEX_MISFIT && fault.entry == 11 && fault.row == 16 && len == 77);
+    it.scope[0].kind = VORTEX_I32;
     char deep[202] = {0};
     memset(deep, '(', 201);
     assert(SQL(deep) == VORTEX_TOO_DEEP && fault.entry > 60 && fault.entry < 70 && fault.row == 0 && fault.column == 0);
@@ -619,7 +682,7 @@ static void program(void) {
 
 int main(void) {
     layout();
-    assert(vortex_version() == VORTEX_VERSION && VORTEX_VERSION == 0x000200);
+    assert(vortex_version() == VORTEX_VERSION && VORTEX_VERSION == 0x000300);
     every_number();
     every_field();
     every_refusal();
@@ -636,6 +699,7 @@ int main(void) {
     every_bad_question();
     every_bad_statistic();
     every_condition();
+    every_logical_kind();
     every_bad_condition();
     program();
     puts("round trip: each field, type and status is as the header says");

@@ -35,8 +35,9 @@
  * to ends[i], the first one from `start`, which is mostly 0. So the offsets of an Arrow array serve as `ends` from their
  * second element on, with the first as `start`. For other types `ends` is empty. A column of VORTEX_NULL has no values.
  *
- * Dates, timestamps, decimals, floating numbers and UUIDs are mapped onto these kinds, each in its own order: docs/TYPES.md
- * says how, and what bounds of other writers mean.
+ * Dates, times, timestamps and decimals are whole numbers: VORTEX_DATE and the kinds behind it say what they stand for, and a
+ * condition in SQL compares them by that. Floating numbers and UUIDs are mapped onto the kinds of numbers and bytes, each in
+ * its own order: docs/TYPES.md says how, and what bounds of other writers mean.
  *
  * Arrow. vortex_measure_arrow and vortex_check_arrow take the buffers of an Arrow array as they are: bits of validity and
  * truths, offsets of 32 or 64 bits, and the places before a slice.
@@ -67,8 +68,9 @@ enum vortex_status {
                                    expression over these columns */
     VORTEX_TOO_SHORT = 3,       /* `output`, `values` or `unread` is too short: *len says how long it has to be */
     VORTEX_NO_MEMORY = 4,       /* memory was refused */
-    VORTEX_BAD_KIND = 5,        /* a kind above VORTEX_BINARY, a `nullable` above 1, or offsets of neither 4 nor 8 bytes: which
-                                   column */
+    VORTEX_BAD_KIND = 5,        /* a kind above VORTEX_DECIMAL, a `nullable` above 1, a unit or digits that aren't those of the
+                                   kind, or offsets of neither 4 nor 8 bytes: which column; vortex_prune: a kind above
+                                   VORTEX_BINARY */
     VORTEX_BAD_STAT = 6,        /* no statistic's number, or the column's type has no such statistic: which statistic */
     VORTEX_BAD_KNOWN = 7,       /* a byte above VORTEX_INEXACT says how a value is known: which zone and statistic */
     VORTEX_BAD_LENGTH = 8,      /* an array is too short or too long: which column or statistic */
@@ -130,7 +132,7 @@ enum vortex_sql_fault {
 };
 
 /* The version of this header: the major number times 65,536, the minor one times 256, and the patch. */
-#define VORTEX_VERSION 0x000200u
+#define VORTEX_VERSION 0x000300u
 
 /*
  * How many levels a predicate of vortex_prune may have. A column and a literal have none, each other node one more than
@@ -140,7 +142,7 @@ enum vortex_sql_fault {
  */
 #define VORTEX_MAX_DEPTH 128
 
-/* The kinds of values. */
+/* The kinds of values. Those from VORTEX_DATE on are numbers with a sign, of 32 bits for dates and of 64 for the others. */
 enum vortex_kind {
     VORTEX_NULL = 0,
     VORTEX_BOOL = 1,
@@ -153,7 +155,20 @@ enum vortex_kind {
     VORTEX_I32 = 8,
     VORTEX_I64 = 9,
     VORTEX_UTF8 = 10,
-    VORTEX_BINARY = 11
+    VORTEX_BINARY = 11,
+    VORTEX_DATE = 12,         /* days since 1970-01-01 */
+    VORTEX_TIME = 13,         /* units since midnight */
+    VORTEX_TIMESTAMP = 14,    /* units since 1970-01-01 00:00:00 on the same clock */
+    VORTEX_TIMESTAMP_TZ = 15, /* units since 1970-01-01 00:00:00 UTC */
+    VORTEX_DECIMAL = 16       /* units of the last digit */
+};
+
+/* The units of times and timestamps. */
+enum vortex_unit {
+    VORTEX_SECONDS = 1,
+    VORTEX_MILLISECONDS = 2,
+    VORTEX_MICROSECONDS = 3,
+    VORTEX_NANOSECONDS = 4
 };
 
 /* The numbers of the statistics. */
@@ -278,8 +293,11 @@ typedef struct vortex_statistic {
 typedef struct vortex_field {
     const uint8_t *name; /* an ASCII letter or _, then ASCII letters, digits or _; 64 bytes at most */
     size_t name_len;
-    uint8_t kind;     /* a vortex_kind */
-    uint8_t nullable; /* 0 or 1 */
+    uint8_t kind;      /* a vortex_kind; of vortex_prune at most VORTEX_BINARY */
+    uint8_t nullable;  /* 0 or 1 */
+    uint8_t unit;      /* a vortex_unit of VORTEX_TIME, VORTEX_TIMESTAMP and VORTEX_TIMESTAMP_TZ; 0 of other kinds */
+    uint8_t precision; /* of VORTEX_DECIMAL how many digits, 1 to 18; 0 of other kinds */
+    uint8_t scale;     /* of VORTEX_DECIMAL how many of them stand behind the point, at most 38; 0 of other kinds */
 } vortex_field;
 
 /* The version of the library, as VORTEX_VERSION of its header. */
@@ -375,6 +393,9 @@ uint8_t vortex_prune(const vortex_field *scope, size_t scope_len, const uint64_t
  * hasn't, may mean anything: of whatever rows the statistics are true, and whatever those tests say of them, no row of a
  * zone that is skipped satisfies the condition, and each row of a zone that is whole does. The rest of the condition prunes
  * as in vortex_prune, and the rows, the statistics and `answers` are as there.
+ *
+ * Columns of the kinds from VORTEX_DATE on compare by what their numbers stand for: with typed literals, as DATE '2026-01-02',
+ * with texts beside them, and decimals with numbers. A number beside a date is a misfit.
  *
  * `unread` has the places of the tests that weren't read at its front, ascending; what stands behind them stays as it was.
  * *len is how many there are, or with VORTEX_TOO_SHORT how many `unread` has to have room for: never more than text_len.

@@ -3,6 +3,7 @@
 import csv
 import os
 import tempfile
+import time
 
 import numpy
 from distributed import Client, LocalCluster
@@ -27,6 +28,8 @@ def write(folder: str) -> None:
 def main() -> None:
     with tempfile.TemporaryDirectory() as folder, tempfile.TemporaryDirectory() as own:
         write(folder)
+        # A partition that was changed less than two seconds before it is measured is measured anew the next time.
+        time.sleep(2.1)
         # On the loopback alone, and with the workers' own files in a folder that goes with them.
         settings = {"host": "127.0.0.1", "dashboard_address": None, "local_directory": own}
         with LocalCluster(n_workers=2, threads_per_worker=1, **settings) as local, Client(local) as client:

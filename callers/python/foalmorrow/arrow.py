@@ -4,7 +4,8 @@
 A producer offers ``__arrow_c_array__`` or ``__arrow_c_stream__``; or C code hands over the addresses of its structs, as ``Structs``. What is
 read is copied, and each release callback is called once: before a read returns, and after an error too. A chunk's arrays of numbers, truths,
 texts and bytes are lent to the library as they are, and released once it has measured or checked them. An array's buffers have no lengths of
-their own, so that a producer is trusted for them; all else that its structs say is looked at.
+their own, so that a producer is trusted for them; all else that its structs say is looked at. How many buffers an array of views has is told by
+the producer alone, too: where Linux shows a process its memory, what would stand outside of it is refused.
 """
 from __future__ import annotations
 
@@ -57,6 +58,8 @@ _FILL = ctypes.CFUNCTYPE(c_int, c_void_p, c_void_p)
 _TOLD = ctypes.CFUNCTYPE(c_char_p, c_void_p)
 #: No array has more values: more than an address space has bytes.
 _MOST = 2**47
+#: No array of views has more buffers.
+_MOST_BUFFERS = 2**20
 #: How deep dictionaries and structs may nest.
 _DEEPEST = 16
 #: The formats of arrays that the library takes as they are.
@@ -499,6 +502,23 @@ def _buffer(array: Any, place: int, size: int, where: Where) -> Any:
     return numpy.frombuffer(held, numpy.uint8)
 
 
+def _copied(address: int, size: int, place: int, where: Where) -> Any:
+    """Returns so many bytes of a buffer as a copy. Refuses what isn't in memory, where Linux shows it."""
+    found = b""
+    try:
+        if size and address:
+            with open("/proc/self/mem", "rb") as memory:
+                memory.seek(address)
+                found = memory.read(size)
+    except (FileNotFoundError, PermissionError):
+        found = ctypes.string_at(address, size)
+    except (OSError, OverflowError, ValueError):
+        pass
+    if len(found) != size:
+        raise where.fault(f"buffer {place} of an array of Arrow isn't there; expected {size} bytes")
+    return numpy.frombuffer(found, numpy.uint8)
+
+
 def _heap(array: Any, size: int, first: int, length: int, where: Where) -> tuple[Any, Any]:
     """Returns the heap of texts or bytes from the first one on, and where each of them ends."""
     if not length:
@@ -521,12 +541,12 @@ def _views(array: Any, first: int, length: int, there: Any, where: Where) -> tup
     # A null has room for no bytes, whatever its view says.
     sizes = fields[:, 0].astype("<i8") if there is None else numpy.where(there, fields[:, 0], 0).astype("<i8")
     count = array.n_buffers - 3
-    lengths = _buffer(array, array.n_buffers - 1, 8 * count, where).view("<i8")
-    if (lengths < 0).any() or int(lengths.sum()) > _MOST:
+    if count > _MOST_BUFFERS:
+        raise where.fault(f"an array of views has {array.n_buffers} buffers; expected at most {_MOST_BUFFERS}")
+    addresses = _copied(ctypes.addressof(array.buffers.contents), 8 * array.n_buffers, 0, where).view("<u8").tolist()
+    lengths = _copied(addresses[-1], 8 * count, count + 2, where).view("<i8")
+    if ((lengths < 0) | (lengths > _MOST)).any():
         raise where.fault("a buffer of views has a length that can't be; expected one within memory")
-    # All bytes one behind the other: those of the views, and of each buffer.
-    bytes_of = numpy.concatenate([views, *[_buffer(array, 2 + place, int(lengths[place]), where) for place in range(count)]])
-    bases = numpy.concatenate([numpy.cumsum(lengths) - lengths, numpy.zeros(1, "<i8")])
     is_long = sizes > 12
     buffer, start = numpy.where(is_long, fields[:, 2], 0), numpy.where(is_long, fields[:, 3], 0).astype("<i8")
     wrong = (sizes < 0) | (is_long & ((buffer < 0) | (buffer >= count) | (start < 0)))
@@ -534,6 +554,11 @@ def _views(array: Any, first: int, length: int, there: Any, where: Where) -> tup
     wrong |= is_long & (start + sizes > room)
     if wrong.any():
         raise where.fault("a view lies outside of its buffers; expected one within them", int(wrong.argmax()))
+    # The bytes one behind the other: those of the views, and of each buffer as far as views need it.
+    needed = numpy.zeros(count + 1, "<i8")
+    numpy.maximum.at(needed, numpy.where(is_long, buffer, count), numpy.where(is_long, start + sizes, 0))
+    bytes_of = numpy.concatenate([views, *[_copied(addresses[2 + place], int(needed[place]), 2 + place, where) for place in range(count)]])
+    bases = numpy.cumsum(needed) - needed
     starts = numpy.where(is_long, len(views) + bases[numpy.where(is_long, buffer, count)] + start, numpy.arange(length, dtype="<i8") * 16 + 4)
     ends = numpy.cumsum(sizes)
     places = numpy.arange(int(ends[-1]) if length else 0, dtype="<i8") + numpy.repeat(starts - (ends - sizes), sizes)

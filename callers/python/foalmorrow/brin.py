@@ -4,6 +4,9 @@
 What a BRIN index keeps of a range are a least and a greatest value of each column and whether there are nulls. They were true when
 they were written and rows that were deleted since don't shrink them, so both are inexact. How many rows a range has isn't kept.
 
+A column of dates, timestamps or numerics may have infinity or NaN, which no number stands for. A comparison with a literal that isn't between
+the least and the greatest number of the type is carried along as unknown, and such footers are kept in no file.
+
 ``read`` and ``select`` belong into one ``session``: rows that others write meanwhile widen ranges that were read already.
 """
 from __future__ import annotations
@@ -28,9 +31,31 @@ from .types import Date, Decimal, Timestamp, Unmapped, Uuid
 #: Asks the server, and answers rows of texts, None being null.
 Query = Callable[[str], list[list[str | None]]]
 
+
+@dataclass(frozen=True)
+class _Date(Date):
+    """A date, or infinity."""
+
+    is_open = True
+
+
+@dataclass(frozen=True)
+class _Timestamp(Timestamp):
+    """An instant, infinity, or an instant of the last 29 years that the server has, which have no number here."""
+
+    is_open = True
+
+
+@dataclass(frozen=True)
+class _Decimal(Decimal):
+    """A decimal number, or NaN."""
+
+    is_open = True
+
+
 _TYPES: dict[str, DType | Logical] = {"smallint": DType.I16, "integer": DType.I32, "bigint": DType.I64, "bytea": DType.BINARY}
-_TYPES |= {"text": DType.UTF8, "character varying": DType.UTF8, "date": Date(), "uuid": Uuid()}
-_TYPES |= {"timestamp without time zone": Timestamp("us"), "timestamp with time zone": Timestamp("us", "UTC")}
+_TYPES |= {"text": DType.UTF8, "character varying": DType.UTF8, "date": _Date(), "uuid": Uuid()}
+_TYPES |= {"timestamp without time zone": _Timestamp("us"), "timestamp with time zone": _Timestamp("us", "UTC")}
 _GREATEST_TEXT = "\U0010ffff" * 16
 #: How many runs of pages one statement asks for.
 _RUNS = 200
@@ -272,7 +297,7 @@ def _type(dtype: str | None, whole: str | None) -> DType | Logical | None:
     """Returns the type of a column by PostgreSQL's name for it, without and with its length or its digits; None where there is none."""
     numeric = re.fullmatch(r"numeric\((\d+),(-?\d+)\)", whole or "")
     if numeric is not None and int(numeric[1]) <= 18 and 0 <= int(numeric[2]) <= int(numeric[1]):
-        return Decimal(int(numeric[1]), int(numeric[2]))
+        return _Decimal(int(numeric[1]), int(numeric[2]))
     return _TYPES.get(dtype or "")
 
 
@@ -389,11 +414,15 @@ _CLOCK = re.compile(r"(\d{4,7})-(\d\d)-(\d\d)(?: (\d\d):(\d\d):(\d\d)(?:\.(\d{1,
 
 
 def _value(kind: DType | Logical, text: str) -> Any:
-    """A value as the server writes it as one of the physical type; None where it has none, as NaN, or isn't written in a form that is read."""
+    """A value as the server writes it as one of the physical type; None where it has none, as NaN or a timestamp after 294247-01-10, or isn't written
+    in a form that is read."""
     if isinstance(kind, (Date, Timestamp)):
         ends = kind.dtype.range
         assert ends is not None
-        return {"-infinity": ends[0], "infinity": ends[1]}.get(text, _instant(kind, text))
+        if text in ("-infinity", "infinity"):
+            return ends[text == "infinity"]
+        found = _instant(kind, text)
+        return found if found is not None and ends[0] < found < ends[1] else None
     if isinstance(kind, Decimal):
         return None if text == "NaN" else kind.stored(text)
     if isinstance(kind, Logical):

@@ -17,6 +17,7 @@ import urllib.error
 import urllib.parse
 import urllib.request
 from array import array
+from bisect import bisect_right
 from collections.abc import Callable, Iterator, Sequence
 from dataclasses import dataclass, field
 from itertools import accumulate
@@ -28,6 +29,7 @@ from .footers import ALL, FooterError, Footers, Nullable
 from .kinds import Answer, Column, DType, Stat
 from .library import Refused
 from .predicate import Dialect, Predicate, PredicateError, sql_literal
+from .sql import SqlError
 from .tables import Bound, Zones
 
 #: Asks the server, and answers its bytes.
@@ -68,6 +70,52 @@ class Spelling(Dialect):
         if ignore_case:
             name, same = f"lower({name})", "".join(it.lower() if it.isascii() else it for it in same)
         return f"({name} {'NOT ' * negated}LIKE {self.literal(column, same)})"
+
+
+#: The texts, the quoted names and the words of a condition, and where parentheses end.
+_TOKENS = re.compile(r"""'(?:[^']|'')*'|"(?:[^"]|"")*"|\w+|\)""")
+#: What NOT negates as a part of a test.
+_NEGATED = frozenset("IN LIKE ILIKE SIMILAR BETWEEN NULL".split())
+
+
+class ServedFooters(Footers):
+    """Footers of a table of the server, by which conditions in SQL are answered as the server means them.
+
+    IN is never null there, and AND and OR take null for false here and there. So a test with IN isn't read, and a condition isn't at all in which NOT or
+    IS may stand above AND or OR.
+    """
+
+    def _answered_sql(self, condition: str, last_names: bool) -> tuple[bytearray, list[tuple[int, int]]]:
+        found = super()._answered_sql(condition, last_names)
+        tokens = list(_TOKENS.finditer(condition))
+        words = [it[0].upper() for it in tokens]
+        unread = bytearray(len(self)), [(0, len(condition.encode()))]
+        if not {"AND", "OR"}.isdisjoint(words) and any(map(_is_above, words, [*words[1:], ""])):
+            return unread
+        places = [it.start() for it, word in zip(tokens, words) if word == "IN"]
+        if not places:
+            return found
+        # ILIKE binds as IN does, and isn't read.
+        pieces = [condition[start:end] for start, end in zip([0, *(place + 2 for place in places)], [*places, len(condition)])]
+        try:
+            codes, spans = super()._answered_sql("ILIKE".join(pieces), last_names)
+        except SqlError:
+            return unread
+        ends = list(accumulate((len(piece.encode()) + 5 for piece in pieces[:-1])))
+
+        def moved(at: int) -> int:
+            return at - 3 * bisect_right(ends, at)
+
+        return codes, [(moved(start), moved(end)) for start, end in spans]
+
+
+def _is_above(word: str, following: str) -> bool:
+    """Tells whether a word may stand above AND or OR: NOT before a condition, and IS behind one in parentheses."""
+    return (word == "NOT" and following not in _NEGATED) or (word == ")" and following in ("IS", "ISNULL", "NOTNULL"))
+
+
+def _served(footers: Footers) -> ServedFooters:
+    return ServedFooters(footers.columns, footers.rows, footers.statistics)
 
 
 def _pattern(column: Column, pattern: str) -> str:
@@ -148,7 +196,7 @@ def granules(query: Query, database: str, table: str) -> Granules:
             names.append(name)
             zones.begin(min(size, count_of - at * size))
             _tell(zones, key, mark, marks[at + 1] if at + 1 < len(marks) else None, bounds)
-    return Granules(tuple(names), zones.footers())
+    return Granules(tuple(names), _served(zones.footers()))
 
 
 @dataclass(frozen=True)
@@ -383,12 +431,12 @@ class PartFooters:
             pieces = [self.footers.slice(place, place + 1) for place in known.values()] if self.footers is not None else []
             self.parts = [*known, *fresh]
             self.stamps = [active[name] for name in self.parts]
-            self.footers = Footers.joined(pieces + measured) if pieces or measured else None
+            self.footers = ServedFooters.joined(pieces + measured) if pieces or measured else None
             return fresh, gone
         raise ClickHouseError(f"{self.database}.{self.table}: its parts are merged faster than they are measured")
 
-    def prune(self, predicate: Predicate) -> Answers:
-        """What to do with each part, in the order of ``parts``."""
+    def prune(self, predicate: Predicate | str) -> Answers:
+        """What to do with each part, in the order of ``parts``, under a predicate or a condition in SQL, as ``ServedFooters`` reads it."""
         if self.footers is None:
             return Answers(b"")
         return self.footers.prune(predicate)
@@ -450,7 +498,7 @@ class PartFooters:
             raise FooterError(f"{path} doesn't say which parts it is of")
         if not len(parts) == len(stamps) == len(footers):
             raise FooterError(f"{path} has {len(footers)} footers for {len(parts)} parts")
-        return cls(database, table, footers.columns, parts, footers, stamps)
+        return cls(database, table, footers.columns, parts, _served(footers), stamps)
 
 
 class _Merged(Exception):

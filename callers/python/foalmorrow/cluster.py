@@ -2,7 +2,8 @@
 """A cluster (Dask): a table of more files than a machine holds, measured, merged, pruned and read where its partitions lie.
 
 Only footers travel: each worker measures its own partitions. The footers of a table stand in one file beside it; a partition that was
-changed since is measured anew. A worker writes nothing, and what one that dies had in hand another does again.
+changed since, or less than two seconds before it was measured, is measured anew. A worker writes nothing, and what one that dies had in hand
+another does again.
 """
 from __future__ import annotations
 
@@ -12,6 +13,7 @@ import json
 import os
 import pathlib
 import re
+import time
 import warnings
 from collections import deque
 from collections.abc import Callable, Iterator, Mapping, Sequence
@@ -27,6 +29,7 @@ from .footers import ALL, PRUNING, FooterError, Footers, Nullable
 from .items import expected, value_of
 from .kinds import Answer, Column, DType, Logical, Stat
 from .predicate import Predicate
+from .stamps import Stamp, stamp_of
 from .types import FixedBinary, Float32, Float64
 
 Chunk = Mapping[str, object]
@@ -51,17 +54,16 @@ class Table:
     files: tuple[str, ...]
     read: Reader
 
-    def stamps(self) -> list[tuple[int, int]]:
-        """The size and the time of change of each partition. TableError where one is gone."""
+    def stamps(self) -> list[Stamp]:
+        """The sizes, times and names of each partition's files. TableError where one is gone."""
         return [_stamp(file) for file in self.files]
 
 
-def _stamp(file: str) -> tuple[int, int]:
+def _stamp(file: str) -> Stamp:
     try:
-        within = [os.stat(os.path.join(file, name)) for name in os.listdir(file)] if os.path.isdir(file) else [os.stat(file)]
+        return stamp_of(file)
     except OSError as fault:
         raise TableError(f"the partition {file} is gone") from fault
-    return sum(it.st_size for it in within), max((it.st_mtime_ns for it in within), default=0)
 
 
 @dataclass
@@ -69,7 +71,8 @@ class Kept:
     """The footers of a table's partitions, a zone each, with what their files were when they were measured."""
 
     files: list[str]
-    stamps: list[tuple[int, int]]
+    #: Of a partition that may change once more within a tick of its clock, the stamp of none.
+    stamps: list[Stamp]
     footers: Footers
 
     def save(self, path: str | os.PathLike[str]) -> None:
@@ -82,11 +85,12 @@ class Kept:
         footers, note = Footers.load_with_note(path)
         try:
             told = json.loads(note)
-            files, stamps = told["files"], [(size, time) for size, time in told["stamps"]]
+            files, stamps = told["files"], [Stamp(size, content, change, names) for size, content, change, names in told["stamps"]]
         except (ValueError, KeyError, TypeError, RecursionError) as fault:
             raise FooterError(f"{path} has the footers of no table of files") from fault
-        numbers = [number for stamp in stamps for number in stamp]
-        if not (isinstance(files, list) and {str} >= set(map(type, files)) and {int} >= set(map(type, numbers))):
+        numbers = [number for stamp in stamps for number in stamp[:3]]
+        names = [stamp.names for stamp in stamps]
+        if not (isinstance(files, list) and {str} >= set(map(type, [*files, *names])) and {int} >= set(map(type, numbers))):
             raise FooterError(f"{path} has the footers of no table of files")
         if not len(files) == len(stamps) == len(footers):
             raise FooterError(f"{path} has {len(footers)} footers for {len(files)} files")
@@ -127,14 +131,15 @@ def measure(
 ) -> tuple[Kept, list[str]]:
     """The footers of all partitions, measured where they lie, and the files that were measured now.
 
-    A partition whose file is what it was in ``kept`` keeps its footer. What a worker that dies had measured is measured again. ``watch`` is
-    handed the tasks before they are waited for, as ``distributed.progress`` takes them.
+    A partition whose files have the names, sizes and times that they had in ``kept`` keeps its footer, unless it was changed less than two seconds
+    before it was measured. What a worker that dies had measured is measured again. ``watch`` is handed the tasks before they are waited for, as
+    ``distributed.progress`` takes them.
 
-    TableError, with the file, where a partition is gone, lacks a column or has a value that isn't of its column's type; FooterError where
-    ``kept`` is of other columns; ConnectionError where the cluster goes away.
+    TableError, with the file, where a partition is gone, changes while it is measured, lacks a column or has a value that isn't of its column's
+    type; FooterError where ``kept`` is of other columns; ConnectionError where the cluster goes away.
     """
-    stamps = table.stamps()
-    known: dict[str, tuple[tuple[int, int], Footers]] = {}
+    began, stamps = time.time_ns(), table.stamps()
+    known: dict[str, tuple[Stamp, Footers]] = {}
     if kept is not None:
         if kept.footers.columns != table.columns:
             raise FooterError("the footers are of a table with other columns")
@@ -146,8 +151,11 @@ def measure(
             watch(tasks)
         told = client.gather(tasks)
     new = dict(zip(fresh, (Footers.from_bytes(data)[0] for data in told)))
+    for file, stamp in zip(table.files, stamps):
+        if file in new and _stamp(file) != stamp:
+            raise TableError(f"{file} was changed while it was measured")
     pieces = [new[file] if file in new else known[file][1] for file in table.files]
-    return Kept(list(table.files), stamps, Footers.joined(pieces)), fresh
+    return Kept(list(table.files), [stamp.as_kept(began) for stamp in stamps], Footers.joined(pieces)), fresh
 
 
 def merge(client: Client, footers: Footers, wanted: Sequence[Stat] = SHAPELESS, shard: int = _SHARD, fan: int = 8) -> Footers:
@@ -211,7 +219,7 @@ class Selected:
 
     columns: tuple[Column, ...]
     files: list[str]
-    #: Those of them that were changed since they were measured, or weren't measured: read whatever is known of them.
+    #: Those of them that were changed since they were measured or just before, or weren't measured: read whatever is known of them.
     changed: list[str]
     parts: list[Any]
 
@@ -230,8 +238,8 @@ class Selected:
 def select(client: Client, table: Table, kept: Kept, predicate: Predicate) -> Selected:
     """The rows that satisfy a predicate, of the partitions that aren't ruled out: what a filter of all partitions answers.
 
-    Nothing is read yet: ``frame`` and ``parts`` are Dask's, to go on with. A partition that isn't what it was when it was measured is among
-    those that are read. PredicateError where the predicate doesn't fit the table; FooterError where ``kept`` is of other columns.
+    Nothing is read yet: ``frame`` and ``parts`` are Dask's, to go on with. A partition that isn't what it was when it was measured, or that was
+    changed less than two seconds before, is among those that are read. PredicateError where the predicate doesn't fit the table; FooterError where ``kept`` is of other columns.
     """
     if kept.footers.columns != table.columns:
         raise FooterError("the footers are of a table with other columns")

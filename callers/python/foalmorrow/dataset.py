@@ -14,18 +14,21 @@ import os
 import re
 import time
 import urllib.parse
+from collections import Counter
 from collections.abc import Callable, Iterable, Mapping, Sequence
 from concurrent.futures import ThreadPoolExecutor
 from dataclasses import dataclass
 from functools import partial
-from typing import Any, NamedTuple
+from typing import Any
 
 from . import parquet_footers
 from .footers import FooterError, Footers
 from .items import shown
 from .kinds import Column, DType, Logical, Stat
+from .stamps import Stamp, stamp_of
 from .statistic import without_nulls
 from .tables import Bound, DataFile, Table, Zones
+from .types import Unmapped
 
 __all__ = ["DatasetError", "read"]
 
@@ -37,8 +40,6 @@ Type = DType | Logical
 
 #: What Hive names a folder for in place of null.
 _NULL = "__HIVE_DEFAULT_PARTITION__"
-#: How long a file has to be unchanged before its time of change tells it from the next change: clocks of files may tick by two seconds.
-_SETTLED = 2 * 10**9
 #: Levels of the deepest folder, and files of the greatest directory.
 MOST_LEVELS, MOST_FILES = 64, 10**7
 
@@ -62,8 +63,11 @@ def read(
     ``.`` are left out. ``footers`` is the file in which footers are kept. ``reader`` reads those of a file, by default as Parquet. ``map`` calls
     it side by side, by default in threads; ``foalmorrow.cluster.spread`` does so on a Dask cluster.
 
-    DatasetError where folders lead back into themselves, files are named for different keys or have a column in two types, a folder's value is
-    none of its type, or a file changes while it is read; errors of the reader as they are.
+    A column that files have in several types is of the one that most files have. In the others no more is known of it than its nulls, and of a column
+    that folders are named for and files have, too, nothing.
+
+    DatasetError where folders lead back into themselves, files are named for different keys, a folder's value is none of its type, or a file changes
+    while it is read; errors of the reader as they are.
     """
     place = os.fspath(folder)
     paths = _files(place, suffix)
@@ -77,7 +81,7 @@ def read(
         if _stamp(place, path) != stamps[path]:
             raise DatasetError(f"{os.path.join(place, path)} was changed while its footers were read")
         pieces[path] = Footers.from_bytes(data)[0]
-    whole = _joined(place, paths, pieces)
+    whole = _joined(paths, pieces)
     if footers is not None and (fresh or len(kept) != len(paths)):
         _save(footers, place, whole, [(path, stamps[path], pieces[path]) for path in paths], began)
     files = [DataFile(path, stamps[path].size, rows, row_group=group) for path in paths for group, rows in enumerate(pieces[path].rows)]
@@ -87,20 +91,11 @@ def read(
 # -- files
 
 
-class _Stamp(NamedTuple):
-    """What tells whether a file was changed: its size, and the times at which its content and what is said of it changed."""
-
-    size: int
-    content: int
-    change: int
-
-
-def _stamp(place: str, path: str) -> _Stamp:
+def _stamp(place: str, path: str) -> Stamp:
     try:
-        it = os.stat(os.path.join(place, path))
+        return stamp_of(os.path.join(place, path))
     except OSError as fault:
         raise DatasetError(f"{os.path.join(place, path)} is gone: {fault}") from fault
-    return _Stamp(it.st_size, it.st_mtime_ns, it.st_ctime_ns)
 
 
 def _files(place: str, suffix: str) -> list[str]:
@@ -156,26 +151,30 @@ def _bytes_of(reader: Reader, place: str, path: str) -> bytes:
 # -- footers of files that don't have the same columns
 
 
-def _joined(place: str, paths: Sequence[str], pieces: Mapping[str, Footers]) -> Footers:
+def _joined(paths: Sequence[str], pieces: Mapping[str, Footers]) -> Footers:
     """Returns the footers of all files, one behind the other. A column that a file doesn't have is unknown there, and so are its nulls."""
-    types: dict[str, tuple[Column, str]] = {}
-    owners: dict[str, int] = {}
+    types: dict[str, Counter[Type]] = {}
     is_nullable: set[str] = set()
     for path in paths:
         for column in pieces[path].columns:
-            first, at = types.setdefault(column.name, (column, path))
-            if first.type != column.type:
-                words = f"is {first.type.word} in {at} and {column.type.word} in {path}"
-                raise DatasetError(f"{place}: the column {column.name} {words}")
-            owners[column.name] = owners.get(column.name, 0) + 1
+            types.setdefault(column.name, Counter())[column.type] += 1
             is_nullable |= {column.name} if column.nullable else set()
-    columns = [Column(name, it.type, name in is_nullable or owners[name] < len(paths)) for name, (it, _) in types.items()]
+    columns = [Column(name, _common(it), name in is_nullable or it.total() < len(paths) or len(it) > 1) for name, it in types.items()]
     return Footers.joined([_with_columns(pieces[path], columns) for path in paths])
 
 
+def _common(types: Counter[Type]) -> Type:
+    """Returns the type that most files have, the first one of several; an unmapped one where there is no other."""
+    found = Counter({kind: count for kind, count in types.items() if not isinstance(kind, Unmapped)})
+    return (found or types).most_common(1)[0][0]
+
+
 def _with_columns(piece: Footers, columns: Sequence[Column]) -> Footers:
-    """Returns footers of a file under the columns of the table. That a column of the file isn't nullable is told as its null count."""
-    statistics = dict(piece.statistics)
+    """Returns footers of a file under the columns of the table. That a column of the file isn't nullable is told as its null count, and of one that has
+    another type there no more is told."""
+    types = {column.name: column.type for column in columns}
+    others = {column.name for column in piece.columns if column.type != types[column.name]}
+    statistics = {(name, stat): it for (name, stat), it in piece.statistics.items() if name not in others or stat == Stat.NULL_COUNT}
     for column in piece.columns:
         if not column.nullable and column.dtype != DType.NULL:
             statistics[column.name, Stat.NULL_COUNT] = without_nulls(piece.rows, statistics.get((column.name, Stat.NULL_COUNT)))
@@ -185,18 +184,19 @@ def _with_columns(piece: Footers, columns: Sequence[Column]) -> Footers:
 # -- footers that are kept
 
 
-def _save(path: str | os.PathLike[str], place: str, whole: Footers, files: Sequence[tuple[str, _Stamp, Footers]], began: int) -> None:
+def _save(path: str | os.PathLike[str], place: str, whole: Footers, files: Sequence[tuple[str, Stamp, Footers]], began: int) -> None:
     """Keeps the footers of all files in one. A file that may change once more within a tick of its clock is read anew the next time."""
     schemas: dict[tuple[tuple[str, bool], ...], int] = {}
     told = []
     for name, stamp, piece in files:
-        number = schemas.setdefault(tuple((it.name, it.nullable) for it in piece.columns), len(schemas))
-        is_settled = max(stamp.content, stamp.change) + _SETTLED <= began
-        told.append([name, *(stamp if is_settled else (stamp.size, -1, -1)), len(piece), number])
+        # A column of nulls alone may be of another type in the table.
+        number = schemas.setdefault(tuple((it.name, it.nullable or it.dtype == DType.NULL) for it in piece.columns), len(schemas))
+        kept = stamp.as_kept(began)
+        told.append([name, kept.size, kept.content, kept.change, len(piece), number])
     whole.save(path, json.dumps({"dataset": os.path.realpath(place), "schemas": list(schemas), "files": told}))
 
 
-def _load(path: str | os.PathLike[str], place: str) -> dict[str, tuple[_Stamp, Footers]]:
+def _load(path: str | os.PathLike[str], place: str) -> dict[str, tuple[Stamp, Footers]]:
     """Returns the stamp and the footers of each file that are kept. FooterError where they are of another directory, or of none."""
     whole, note = Footers.load_with_note(path)
     try:
@@ -204,7 +204,9 @@ def _load(path: str | os.PathLike[str], place: str) -> dict[str, tuple[_Stamp, F
         if told["dataset"] != os.path.realpath(place):
             raise FooterError(f"{path} has the footers of {shown(told['dataset'])}, not of {place}")
         schemas = [[(str(name), bool(nullable)) for name, nullable in it] for it in told["schemas"]]
-        files = [(str(name), _Stamp(*map(int, stamp)), int(count), schemas[number]) for name, *stamp, count, number in told["files"]]
+        files = [
+            (str(name), Stamp(int(size), int(content), int(change)), int(count), schemas[number]) for name, size, content, change, count, number in told["files"]
+        ]
     except (KeyError, TypeError, ValueError, IndexError, RecursionError) as fault:
         raise fault if isinstance(fault, FooterError) else FooterError(f"{path} has the footers of no directory") from fault
     if sum(count for _, _, count, _ in files) != len(whole) or any(count < 0 for _, _, count, _ in files):
@@ -230,7 +232,6 @@ class _Keys:
 
     columns: tuple[Column, ...]
     values: tuple[tuple[bool | int | bytes | None, ...], ...]
-    place: str
 
     @classmethod
     def of(cls, place: str, paths: Sequence[str], partitions: Mapping[str, Type]) -> _Keys:
@@ -245,14 +246,11 @@ class _Keys:
         types = [partitions.get(name, DType.UTF8) for name in names]
         values = [tuple(_value(kind, text, f"{place}, {path}") for kind, (_, text) in zip(types, pairs)) for path, pairs in zip(paths, told)]
         nullable = [any(it[at] is None for it in values) for at in range(len(names))]
-        return cls(tuple(Column(*it) for it in zip(names, types, nullable)), tuple(values), place)
+        return cls(tuple(Column(*it) for it in zip(names, types, nullable)), tuple(values))
 
     def added_to(self, footers: Footers, counts: Sequence[int]) -> Footers:
-        """Returns the footers with these columns beside the files' own."""
-        own = {column.name for column in footers.columns}
-        for column in self.columns:
-            if column.name in own:
-                raise DatasetError(f"{self.place}: folders are named for the column {column.name}, and files have it too")
+        """Returns the footers with these columns beside the files' own. Of one that files have too nothing is known."""
+        both = {column.name for column in footers.columns} & {column.name for column in self.columns}
         zones = Zones(self.columns)
         rows = iter(footers.rows)
         for values, count in zip(self.values, counts):
@@ -260,7 +258,10 @@ class _Keys:
                 zones.begin(next(rows))
                 for column, value in zip(self.columns, values):
                     _tell(zones, column, value)
-        return Footers([*footers.columns, *self.columns], footers.rows, {**footers.statistics, **zones.footers().statistics})
+        unknown = [Column(name, Unmapped("of folders and files"), True) for name in sorted(both)]
+        columns = [*(column for column in (*footers.columns, *self.columns) if column.name not in both), *unknown]
+        told = {**footers.statistics, **zones.footers().statistics}
+        return Footers(columns, footers.rows, {key: it for key, it in told.items() if key[0] not in both})
 
 
 def _tell(zones: Zones, column: Column, value: bool | int | bytes | None) -> None:

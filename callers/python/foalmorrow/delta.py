@@ -37,7 +37,8 @@ _FEATURES = frozenset(
     "columnMapping deletionVectors timestampNtz typeWidening typeWidening-preview v2Checkpoint vacuumProtocolCheck "
     "variantType variantType-preview variantShredding-preview".split()
 )
-_ACTIONS = frozenset("add remove metaData protocol txn commitInfo cdc domainMetadata sidecar checkpointMetadata".split())
+#: The actions that are read. A reader passes over others: what it has to know the protocol names among its features.
+_ACTIONS = frozenset("add remove metaData protocol sidecar".split())
 _COMMIT = re.compile(r"([0-9]{20})\.json")
 _CHECKPOINT = re.compile(r"([0-9]{20})\.checkpoint(?:\.([0-9]{10})\.([0-9]{10})|\.[0-9a-fA-F-]{36})?\.(json|parquet)")
 #: Bytes of the greatest file of the log that is read, columns of the widest table, and levels of the deepest.
@@ -49,8 +50,8 @@ def read(path: str | os.PathLike[str], version: int | None = None, *, nan_free: 
 
     A writer may leave NaN out of the greatest value of a floating column, so none is told but of the columns ``nan_free``, which hold no NaN.
 
-    DeltaError where the folder has no log, the version isn't there, the table needs what isn't known, or the log says what can't be: the file,
-    the line and the column are told.
+    Where the statistics of a file say what can't be, nothing is known of the column there, or of the file. DeltaError where the folder has no log, the
+    version isn't there, the table needs what isn't known, or the log says otherwise what can't be: the file, the line and the column are told.
     """
     folder = pathlib.Path(path)
     versions, found = _Log(folder).versions(version)
@@ -152,7 +153,7 @@ def _lines(file: pathlib.Path) -> Iterator[_Action]:
             raise DeltaError(f"{place}: {shown(found)} is no action")
         ((name, fields),) = found.items()
         if name not in _ACTIONS:
-            raise DeltaError(f"{place}: the action {shown(name)} isn't known")
+            continue
         if not isinstance(fields, dict):
             raise DeltaError(f"{place}: {name} is {shown(fields)}; expected an object")
         yield place, name, fields
@@ -178,8 +179,6 @@ class _Snapshot:
         """Applies the actions of one version, which have no order among themselves."""
         seen: set[object] = set()
         for place, action, fields in actions:
-            if action not in ("add", "remove", "metaData", "protocol"):
-                continue
             key = _logical(fields, place) if action in ("add", "remove") else None
             if (key or action) in seen:
                 raise DeltaError(f"{place}: {shown(key or action)} stands twice in {name}")
@@ -339,7 +338,9 @@ def _add(schema: _Schema, zones: Zones, path: str, fields: dict[str, Any], place
             else:
                 told.column(zones, leaf)
         except ToldFault as fault:
-            raise DeltaError(f"{place}, column {leaf.column.name}: {fault}") from None
+            if leaf.path in schema.partitions:
+                raise DeltaError(f"{place}, column {leaf.column.name}: {fault}") from None
+            zones.forget(leaf.column.name)
     return DataFile(path, count(fields, "size", place), told.rows, told.is_wide)
 
 
@@ -375,16 +376,23 @@ class _Told:
 
     @classmethod
     def of(cls, fields: dict[str, Any], place: str) -> _Told:
-        text = field(fields, "stats", str, place, "")
-        stats = parsed(text, f"{place}, stats") if text else {}
-        if not isinstance(stats, dict):
-            raise DeltaError(f"{place}: stats is {shown(stats)}; expected an object")
-        where = f"{place}, stats"
-        physical = count(stats, "numRecords", where, None)
+        """Reads the statistics of a file. Of one whose statistics say what can't be nothing is known."""
         vector = field(fields, "deletionVector", dict, place, None)
         deleted = 0 if vector is None else count(vector, "cardinality", place)
+        try:
+            return cls._of_stats(fields, deleted, vector, f"{place}, stats")
+        except (JsonFault, ToldFault):
+            return cls(None, None, vector is not None, {}, {}, {})
+
+    @classmethod
+    def _of_stats(cls, fields: dict[str, Any], deleted: int, vector: Any, where: str) -> _Told:
+        text = field(fields, "stats", str, where, "")
+        stats = parsed(text, where) if text else {}
+        if not isinstance(stats, dict):
+            raise ToldFault(f"stats is {shown(stats)}; expected an object")
+        physical = count(stats, "numRecords", where, None)
         if physical is not None and deleted > physical:
-            raise DeltaError(f"{place}: {deleted} of {physical} rows are deleted")
+            raise ToldFault(f"{deleted} of {physical} rows are deleted")
         is_wide = vector is not None or not field(stats, "tightBounds", bool, where, True)
         least, greatest, nulls = (field(stats, name, dict, where, {}) for name in ("minValues", "maxValues", "nullCount"))
         return cls(physical, None if physical is None else physical - deleted, is_wide, least, greatest, nulls)

@@ -33,6 +33,9 @@ def encoded(columns: Sequence[Column], rows: array[int], statistics: Mapping[Key
         arrays += [it.known, it.values.data, it.values.ends]
     for text in (note, *(column.name for column in columns), *(column.type.word for column in columns)):
         _check_text(text)
+    for column in columns:
+        if column.logical is not None and type(of_word(column.logical.word)) is not type(column.logical):
+            raise FooterError(f"column {column.name}: no file holds this type: {column.logical!r}")
     told = [{"name": it.name, "type": it.dtype.name, "nullable": it.nullable} | _logical_field(it) for it in columns]
     header = json.dumps({"note": note, "zones": len(rows), "columns": told, "statistics": listed}).encode()
     body = MAGIC + len(header).to_bytes(8, "little") + header + b"".join(arrays)

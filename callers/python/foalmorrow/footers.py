@@ -9,7 +9,7 @@ from collections.abc import Collection, Iterable, Iterator, Mapping, Sequence
 from contextlib import ExitStack
 from typing import Any, Literal, NamedTuple
 
-from . import files, library, logical_sql
+from . import files, library
 from .answers import Answers
 from .arrays import ValueFault, Values
 from .explain import Explanation
@@ -179,9 +179,10 @@ class Footers:
 
         An opaque condition may be anything of each row: it is a column of its own without statistics. So may a test in SQL that isn't read:
         ``unread`` of the answer has the texts of these, ``explained`` underlines them in the condition, and one ``UnreadWarning`` tells of them. A
-        test of a column that the table hasn't, or whose name isn't made of ASCII letters, digits and ``_``, isn't read. Nor is one of a logical
-        type, but for comparisons of dates, timestamps and decimals with literals of their own type, as ``day >= DATE '2026-01-02'``. With
-        ``last_names`` a name of several parts, as ``t.a``, is the column of its last one, and else it isn't read.
+        test of a column that the table hasn't, or whose name isn't made of ASCII letters, digits and ``_``, isn't read, nor is one of a floating
+        number, a UUID, bytes of one length or an enumeration. Dates, times, timestamps and decimals compare with literals of their own type, as
+        ``day >= DATE '2026-01-02'``; a number beside a date is refused. With ``last_names`` a name of several parts, as ``t.a``, is the column
+        of its last one, and else it isn't read.
 
         PredicateError where the predicate names a column that isn't there, compares a column with a value that isn't of its type, isn't of
         type bool, or nests deeper than 128 levels; SqlError, with the place, where a text is no condition; Refused, with the column, the
@@ -213,51 +214,20 @@ class Footers:
         return Answers(library.prune(columns, [column.name for column in columns], self.rows, self._handed(columns), words))
 
     def _prune_sql(self, condition: str, last_names: bool) -> Answers:
-        """Returns the answer to a condition in SQL. Tests that aren't read are tried over the numbers of dates, timestamps and decimals."""
-        codes, unread = self._answered_sql(condition, {}, last_names)
-        named = {it.name: it for it in self.columns if it.logical is not None and it.name in condition}
-        if unread and named:
-            text, names, left = self._over_numbers(condition, unread, named)
-            if names:
-                more, still = self._answered_sql(text, names, last_names)
-                # A test that is told as unread all the same leaves the first answer, which is true.
-                if len(still) == len(left):
-                    codes, unread = more, left
+        codes, unread = self._answered_sql(condition, last_names)
         words = [condition.encode()[start:end].decode() for start, end in unread]
         warn_of(words, stacklevel=3)
         return Answers(codes, words, [(condition, unread)])
 
-    def _answered_sql(self, condition: str, names: Mapping[str, str], last_names: bool) -> tuple[bytearray, list[tuple[int, int]]]:
-        """Returns a code for each zone, and the bytes of tests that weren't read. Columns of logical types are there by the names that they are given.
+    def _answered_sql(self, condition: str, last_names: bool) -> tuple[bytearray, list[tuple[int, int]]]:
+        """Returns a code for each zone, and the bytes of tests that weren't read.
 
-        No other column is handed over whose name doesn't stand in the condition.
+        The columns are handed over that the library knows, and whose names stand in the condition.
         """
-        plain = [it for it in self.columns if it.logical is None and is_name(it.name) and it.name in condition]
-        columns = [*plain, *(self._column(name) for name in names)]
-        spelled = [*(it.name for it in plain), *names.values()]
+        columns = [it for it in self.columns if it.field is not None and is_name(it.name) and it.name in condition]
         handed = self._handed(columns)
-        if not columns:
-            # The library takes no table without columns.
-            columns, spelled = [Column("", DType.BOOL, True)], [unnamed(condition)]
-        return library.prune_sql(columns, spelled, self.rows, handed, condition, last_names)
-
-    def _over_numbers(
-        self, condition: str, unread: Sequence[tuple[int, int]], named: Mapping[str, Column]
-    ) -> tuple[str, dict[str, str], list[tuple[int, int]]]:
-        """Returns a condition in which tests of logical types stand over numbers, the names of their columns there, and the tests that are left unread."""
-        text, made, names, left, at = condition.encode(), b"", dict[str, str](), list[tuple[int, int]](), 0
-        prefix = unnamed(condition)
-
-        def name_of(name: str) -> str:
-            return names.setdefault(name, f"{prefix}_{len(names)}")
-
-        for start, end in unread:
-            found = logical_sql.of_numbers(text[start:end].decode(), named, name_of)
-            if found is None:
-                left.append((start, end))
-            else:
-                made, at = made + text[at:start] + b"(" + found.encode() + b")", end
-        return (made + text[at:]).decode(), names, left
+        # The library takes no table without columns.
+        return library.prune_sql(columns or [Column(unnamed(condition), DType.BOOL, True)], self.rows, handed, condition, last_names)
 
     def _spelled(self, predicate: Predicate) -> tuple[list[Column], list[str], str, list[str]]:
         """Returns the columns that a predicate names, the names that it gives them, its text, and the names of its opaque conditions."""
@@ -315,7 +285,7 @@ class Footers:
             sides = [{stat: side._or_absent(column.name, stat) for stat in stats} for side in (self, right)]
             found = library.merge(column, len(self), *sides) if stats else {}
             statistics |= {(column.name, stat): it for stat, it in found.items()}
-        return Footers(self.columns, rows, statistics)
+        return type(self)(self.columns, rows, statistics)
 
     def merged(self) -> Footers:
         """Returns the footers of all zones as one zone, merged from left to right in one call for each column; of no zones there are none.
@@ -337,7 +307,7 @@ class Footers:
             given = {stat: it for (name, stat), it in self.statistics.items() if name == column.name}
             found = library.merge_zones(column, len(self), given) if given else {}
             statistics |= {(column.name, stat): it for stat, it in found.items()}
-        return Footers(self.columns, array("Q", [rows]), statistics)
+        return type(self)(self.columns, array("Q", [rows]), statistics)
 
     def only(self, wanted: Sequence[Stat]) -> Footers:
         """Returns the footers with some of the statistics alone.
@@ -346,7 +316,7 @@ class Footers:
         >>> list(footers.only([Stat.MAX]).statistics)
         [('a', <Stat.MAX: 3>)]
         """
-        return Footers(self.columns, self.rows, {key: it for key, it in self.statistics.items() if key[1] in wanted})
+        return type(self)(self.columns, self.rows, {key: it for key, it in self.statistics.items() if key[1] in wanted})
 
     def take(self, zones: range) -> Footers:
         """Returns the footers of zones that ascend by one step, as a copy.
@@ -355,7 +325,7 @@ class Footers:
         >>> footers.take(range(1, 2)).at(0)["a", Stat.MIN][1]
         7
         """
-        return Footers(self.columns, self.rows[zones.start : zones.stop : zones.step], {key: it.take(zones) for key, it in self.statistics.items()})
+        return type(self)(self.columns, self.rows[zones.start : zones.stop : zones.step], {key: it.take(zones) for key, it in self.statistics.items()})
 
     def explain(self, predicate: Predicate, normalize: bool = False) -> Explanation:
         """Returns why a zone is read: what each comparison of the predicate by itself tells of each zone, and what isn't known.
@@ -428,7 +398,7 @@ class Footers:
         >>> len(footers.slice(0, 1))
         1
         """
-        return Footers(self.columns, self.rows[start:stop], {key: it.slice(start, stop) for key, it in self.statistics.items()})
+        return type(self)(self.columns, self.rows[start:stop], {key: it.slice(start, stop) for key, it in self.statistics.items()})
 
     def shards(self, size: int) -> Iterator[Footers]:
         """Yields the footers in pieces of so many zones.

@@ -55,7 +55,8 @@ def read(metadata: str | os.PathLike[str], snapshot: int | str | None = None, *,
     In place of the metadata file the folder of a table without a catalog may stand, which has ``metadata/version-hint.text``. Of a table in a
     catalog the catalog alone knows which metadata file is the last one.
 
-    IcebergError where the snapshot isn't there, or a file is of another version or says what can't be; ImportError without python3-avro.
+    Where the metrics of a data file say what can't be, nothing is known of the column there, or of the file. IcebergError where the snapshot isn't
+    there, or a file is of another version or says otherwise what can't be; ImportError without python3-avro.
     """
     place = os.fspath(metadata)
     try:
@@ -325,10 +326,10 @@ class _Files:
 
     def _file(self, path: str, entry: _Entry) -> DataFile:
         where, fields = entry.place, entry.fields
-        rows = count(fields, "record_count", where)
         is_wide = entry.sequence <= self.last_delete
-        self.zones.begin(None if is_wide else rows, is_wide)
-        metrics = _Metrics({name: _by_id(fields, name, kind, where) for name, kind in _METRICS}, rows, is_wide)
+        metrics = _Metrics.of(fields, is_wide, where)
+        rows = None if is_wide else metrics.rows
+        self.zones.begin(rows, is_wide)
         constants = {it.leaf.id: it for it in self.partitions[entry.spec]}
         for leaf in self.leaves:
             place = f"{where}, column {leaf.column.name}"
@@ -336,10 +337,12 @@ class _Files:
                 if leaf.id in constants:
                     self._constant(leaf, entry.partition.get(constants[leaf.id].id), place)
                 else:
-                    metrics.column(self.zones, leaf, place)
+                    metrics.column(self.zones, leaf)
             except ToldFault as fault:
-                raise IcebergError(f"{place}: {fault}") from None
-        return DataFile(path, count(fields, "file_size_in_bytes", where), None if is_wide else rows, is_wide)
+                if leaf.id in constants:
+                    raise IcebergError(f"{place}: {fault}") from None
+                self.zones.forget(leaf.column.name)
+        return DataFile(path, count(fields, "file_size_in_bytes", where), rows, is_wide)
 
     def _constant(self, leaf: _Leaf, told: tuple[str, Any] | None, place: str) -> None:
         """Tells the one value that a column has in all rows of a file."""
@@ -394,18 +397,28 @@ class _Metrics:
     """What a manifest tells of the columns of a file: by the names of its maps, and in these by the columns' numbers."""
 
     told: dict[str, dict[int, Any]]
-    rows: int
+    #: Rows that the file has; None where that isn't known.
+    rows: int | None
     is_wide: bool
 
-    def column(self, zones: Zones, leaf: _Leaf, place: str) -> None:
-        """Tells what is known of a column. ToldFault where a bound is no value of its type, IcebergError where a count can't be."""
+    @classmethod
+    def of(cls, fields: dict[str, Any], is_wide: bool, where: str) -> _Metrics:
+        """Reads the numbers and the maps of a data file. Of one in which they say what can't be nothing is known."""
+        try:
+            rows = count(fields, "record_count", where)
+            return cls({name: _by_id(fields, name, kind, where) for name, kind in _METRICS}, rows, is_wide)
+        except (IcebergError, JsonFault):
+            return cls({name: {} for name, _ in _METRICS}, None, is_wide)
+
+    def column(self, zones: Zones, leaf: _Leaf) -> None:
+        """Tells what is known of a column. ToldFault where a bound is no value of its type, or a count can't be."""
         least, greatest, values, nulls, nans = (self.told[name].get(leaf.id) for name, _ in _METRICS)
         low, high = leaf.form.bounds(least, greatest)
         zones.bounds(leaf.column.name, low, None if isinstance(leaf.form, Floating) and nans != 0 else high)
         if nulls is None or values is None:
             return
         if nulls > values:
-            raise IcebergError(f"{place}: {nulls} of {values} values are null")
+            raise ToldFault(f"{nulls} of {values} values are null")
         # A writer may leave out the rows in which a struct round the column is null.
         if values != self.rows:
             return

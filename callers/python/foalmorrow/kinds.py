@@ -127,6 +127,16 @@ class Logical:
     has_values = True
 
     @property
+    def field(self) -> tuple[int, int, int, int] | None:
+        """The kind, the unit, the digits and those behind the point by which the library knows the type in SQL; None of one that it doesn't know.
+
+        >>> from foalmorrow import Decimal, Uuid
+        >>> Decimal(5, 2).field, Uuid().field
+        ((16, 0, 5, 2), None)
+        """
+        return None
+
+    @property
     def word(self) -> str:
         """Returns the type's word, as ``timestamp[us, UTC]``; ``foalmorrow.types.of_word`` reads it."""
         raise NotImplementedError
@@ -190,6 +200,15 @@ class Column:
     def word(self) -> str:
         """Returns the type's word, as ``i64?`` or ``timestamp[us, UTC]?``."""
         return self.type.word + ("?" if self.nullable and self.type != DType.NULL else "")
+
+    @property
+    def field(self) -> tuple[int, int, int, int] | None:
+        """Returns the kind, the unit, the digits and those behind the point by which the library knows the column in SQL, if it does.
+
+        >>> Column("qty", DType.I64).field
+        (9, 0, 0, 0)
+        """
+        return (int(self.dtype), 0, 0, 0) if self.logical is None else self.logical.field
 
     @property
     def physical(self) -> Column:

@@ -57,7 +57,7 @@ class Status(enum.IntEnum):
 #: How deep a predicate and its normal form may nest, as VORTEX_MAX_DEPTH says.
 MAX_DEPTH = 128
 #: The versions of the library whose calls these are: 0.2.x.
-_MAJOR_MINOR = (0, 2)
+_MAJOR_MINOR = (0, 3)
 _SOURCES = "a wheel has it inside, checks/callers.sh builds it in a checkout, FOALMORROW_LIBRARY names another place"
 
 _SENTENCES = {
@@ -79,6 +79,8 @@ _SENTENCES = {
 _ROOM = 256
 #: For how many tests that aren't read there is room at first.
 _ROOM_UNREAD = 16
+#: A kind that no column has: the library refuses it.
+_NO_FIELD = (255, 0, 0, 0)
 #: The flag by which a name of several parts is the column of its last one.
 _LAST_NAME = 2
 
@@ -176,7 +178,10 @@ class CStatistic(Structure):
 
 
 class CField(Structure):
-    _fields_ = [("name", ctypes.c_void_p), ("name_len", c_size_t), ("kind", c_uint8), ("nullable", c_uint8)]
+    _fields_ = [
+        ("name", ctypes.c_void_p), ("name_len", c_size_t), ("kind", c_uint8), ("nullable", c_uint8), ("unit", c_uint8), ("precision", c_uint8),
+        ("scale", c_uint8),
+    ]
 
 
 class CSpan(Structure):
@@ -269,7 +274,7 @@ def _version(loaded: ctypes.CDLL, path: str) -> tuple[int, int, int]:
 
 
 def version() -> str:
-    """Returns the version of the library, as ``0.2.0``. LibraryError where it isn't there, or is another one than these calls need.
+    """Returns the version of the library, as ``0.3.0``. LibraryError where it isn't there, or is another one than these calls need.
 
     >>> version().count(".")
     2
@@ -457,6 +462,15 @@ def _scope(lent: _Lent, spelled: Sequence[tuple[bytes, DType, bool]]) -> ctypes.
     return (CField * len(spelled))(*[CField(lent.at(name), len(name), dtype, nullable) for name, dtype, nullable in spelled])
 
 
+def _schema(lent: _Lent, columns: Sequence[Column]) -> ctypes.Array[CField]:
+    """Returns columns by their names, what their values stand for, and whether they are nullable."""
+    def field(column: Column) -> CField:
+        name, (kind, unit, precision, scale) = column.name.encode(), column.field or _NO_FIELD
+        return CField(lent.at(name), len(name), kind, column.nullable, unit, precision, scale)
+
+    return (CField * len(columns))(*map(field, columns))
+
+
 def _zones(lent: _Lent, columns: Sequence[Column], statistics: Mapping[tuple[str, Stat], Statistic]) -> ctypes.Array[CStatistic]:
     """Returns statistics of columns, each by the place of its column."""
     places = {column.name: place for place, column in enumerate(columns)}
@@ -495,7 +509,6 @@ def prune(
 
 def prune_sql(
     columns: Sequence[Column],
-    names: Sequence[str],
     rows: array[int],
     statistics: Mapping[tuple[str, Stat], Statistic],
     condition: str,
@@ -503,13 +516,12 @@ def prune_sql(
 ) -> tuple[bytearray, list[tuple[int, int]]]:
     """Returns what to do with each zone under a condition in SQL, a byte each, and the bytes of its text at which the tests stand that weren't read.
 
-    The condition calls the columns by ``names``. A name of several parts is the column of its last one with ``last_names``, and else it isn't read.
+    A name of several parts is the column of its last one with ``last_names``, and else it isn't read. Each column is of a type that the library knows.
     """
     lent, fault, length, keys = _Lent(), Fault(), c_size_t(), list(statistics)
-    spelled = [(name.encode(), it.dtype, it.nullable) for name, it in zip(names, columns)]
-    scope, table, text = _scope(lent, spelled), _zones(lent, columns, statistics), _encoded(condition, "condition")
+    scope, table, text = _schema(lent, columns), _zones(lent, columns, statistics), _encoded(condition, "condition")
     answers, room = bytearray(len(rows)), _ROOM_UNREAD
-    given = (scope, len(spelled), lent.at(rows), len(rows), table, len(keys), lent.at(text), len(text), _LAST_NAME if last_names else 0)
+    given = (scope, len(columns), lent.at(rows), len(rows), table, len(keys), lent.at(text), len(text), _LAST_NAME if last_names else 0)
     while True:
         unread = (CSpan * room)()
         outs = (lent.at(answers), len(answers), unread, room, ctypes.byref(length), ctypes.byref(fault))

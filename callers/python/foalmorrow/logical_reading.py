@@ -252,6 +252,7 @@ def _of_pandas(kind: Logical, given: Any, marks: bytes | None, where: Where) -> 
     pandas = sys.modules["pandas"]
     if isinstance(given, pandas.DataFrame):
         raise where.fault("a frame has 2 dimensions; expected one")
+    given = reading.as_series(given)
     is_open = isinstance(kind, _FLOATS) or (isinstance(kind, Unmapped) and given.dtype == float)
     if is_open and isinstance(given.dtype, numpy.dtype) and given.dtype.kind in "fO":
         _refuse_nan(kind, numpy.asarray(given), marks, where)

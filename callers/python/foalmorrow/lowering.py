@@ -85,7 +85,7 @@ def _leaf(leaf: Predicate, columns: Columns, turned: bool) -> Predicate:
         return leaf
     if isinstance(leaf, Compared) and isinstance(leaf.other, ColumnOf):
         return _of_columns(leaf, known[0], known[1], turned)
-    if isinstance(leaf, Between) and (leaf.low is None or leaf.high is None):
+    if isinstance(leaf, Between) and (leaf.low is None or leaf.high is None or _is_open(known[0])):
         low, high = leaf.ends().leaves()
         return _leaf(low, columns, turned) & _leaf(high, columns, turned)
     if isinstance(leaf, Compared) and leaf.other is None:
@@ -95,6 +95,10 @@ def _leaf(leaf: Predicate, columns: Columns, turned: bool) -> Predicate:
         return _of_literals(leaf, known[0], turned)
     except LiteralFault as fault:
         raise PredicateError(f"column {known[0].name}: {fault}") from None
+
+
+def _is_open(column: Column) -> bool:
+    return isinstance(column.logical, Numbered) and column.logical.is_open
 
 
 def _of_literals(leaf: Compared | Between, column: Column, turned: bool) -> Predicate:
@@ -108,6 +112,8 @@ def _of_literals(leaf: Compared | Between, column: Column, turned: bool) -> Pred
     assert isinstance(kind, Numbered)
     if isinstance(leaf, Compared):
         spot = kind.spot(leaf.other)
+        if not kind.decides(spot):
+            return Opaque(repr(leaf))
         low, high = _limits(kind)
         if spot.exact and low <= spot.number <= high and not isinstance(kind, _FLOATS):
             return Compared(leaf.operator, leaf.name, spot.number)

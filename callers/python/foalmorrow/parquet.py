@@ -36,7 +36,7 @@ def open(source: str | os.PathLike[str] | bytes | bytearray | memoryview | Any) 
     of pyarrow's ``FileMetaData``.
 
     The last eight bytes are read, and then the footer before them; ``prune_pages`` reads the page indexes when it is first called, of a path from the
-    file as it is then, and of bytes only where they begin as a file does. A file object stays open, and stands where it stood.
+    file that stands there then and has to be the same, and of bytes only where they begin as a file does. A file object stays open, and stands where it stood.
 
     FooterFault where the bytes end no Parquet file, OSError where they can't be read, TypeError of anything else. Whether the footer itself can be
     read is seen by ``prune``.
@@ -72,7 +72,7 @@ class _Kept:
 
 def _opened(opener: _Opener, is_whole: bool) -> File:
     with opener() as file:
-        size = _size(file)
+        state, size = _state(file), _size(file)
         tail = _read(file, size, size - min(size, TAIL), size)
         length = footer_length(tail)
         if length > size - TAIL:
@@ -84,9 +84,21 @@ def _opened(opener: _Opener, is_whole: bool) -> File:
         with opener() as file:
             if _size(file) != size:
                 raise OSError(f"the file had {size} bytes when its footer was read, and has {_size(file)}")
-            return _read(file, size, start, begin)
+            found = _read(file, size, start, begin)
+            if _state(file) != state:
+                raise OSError("the file was changed, or replaced by another one, since its footer was read")
+            return found
 
     return File(footer, (begin, fetched) if is_whole else None)
+
+
+def _state(file: BinaryIO) -> tuple[int, ...]:
+    """Returns what tells a file from another one, and from itself once it is changed; nothing of a file object that is none of the system's."""
+    try:
+        told = os.fstat(file.fileno())
+    except (AttributeError, OSError, TypeError, ValueError):
+        return ()
+    return told.st_dev, told.st_ino, told.st_mtime_ns, told.st_ctime_ns
 
 
 def _size(file: BinaryIO) -> int:
@@ -131,7 +143,8 @@ class File:
         """The statistics of the row groups as footers, for all that these do: predicates over dates, times, decimals and floating numbers too, merging,
         explaining, and files of their own. They are read in Python, by the rules of ``docs/SYSTEMS.md`` of the repository, and anew each time.
 
-        ParquetFault where the bytes are no footer, or say what can't be.
+        A column that is repeated, of no known type, or one of several of its name is unmapped: no more is known of it than its nulls, if these are.
+        Nothing is known of a column chunk whose statistics can't be. ParquetFault where the bytes are no footer.
         """
         return of_footer(self.footer)
 
@@ -160,7 +173,7 @@ class File:
         indexes is one page with the statistics of the footer, so a file without any is pruned by its row groups.
 
         At its first call it reads the bytes from the first page index up to the footer. It refuses and warns as ``prune`` does, and FooterFault tells
-        of the page indexes, too. OSError where the file can't be read any more, or has another size.
+        of the page indexes, too. OSError where the file can't be read any more, has another size, or was changed or replaced since its footer was read.
         """
         begin, tail = self._tail()
         told = prune_pages(self.footer, tail, begin, condition, last_names)
@@ -259,6 +272,11 @@ class RowGroups:
         return found
 
 
+def _rows(places: list[int]) -> Sequence[int]:
+    """Returns places of rows as an array, or as they are where a footer tells more rows than 64 bits count."""
+    return array("Q", places) if max(places, default=0) < 2**64 else places
+
+
 class RowRanges:
     """What to do with the rows of a file: stretches of them, in their order, each of which lies in one page of each column that the condition names.
 
@@ -284,16 +302,18 @@ class RowRanges:
         #: The row group of each.
         self.groups = array("Q", groups)
         #: The first row of each, counted through the file.
-        self.starts = array("Q")
+        self.starts: Sequence[int]
         #: The row behind the last one of each.
-        self.stops = array("Q")
+        self.stops: Sequence[int]
+        starts, stops = [], []
         begin = last = 0
         for first, end in zip(firsts, ends):
             # The first stretch of a row group begins where the last one of the row group before it ends.
             begin = last if first == 0 else begin
             last = begin + end
-            self.starts.append(begin + first)
-            self.stops.append(last)
+            starts.append(begin + first)
+            stops.append(last)
+        self.starts, self.stops = _rows(starts), _rows(stops)
 
     def __len__(self) -> int:
         return len(self.answers)

@@ -8,6 +8,7 @@ from __future__ import annotations
 
 import os
 import struct
+from collections import Counter
 from collections.abc import Iterator
 from dataclasses import dataclass
 from typing import Any
@@ -27,13 +28,16 @@ _UNITS = {1: "ms", 2: "us", 3: "ns"}
 #: The types of whole numbers by the older annotation: those without a sign, and those with one.
 _WHOLE = dict(zip(range(11, 19), (DType.U8, DType.U16, DType.U32, DType.U64, DType.I8, DType.I16, DType.I32, DType.I64)))
 MOST_BYTES, MOST_COLUMNS, MOST_LEVELS = 2**30, 8192, 64
+#: What is raised where a field isn't there, or is of another kind than the format says.
+_MALFORMED = (IndexError, KeyError, TypeError, ValueError, AttributeError, StopIteration, OverflowError, struct.error, RecursionError)
 
 
 def read(path: str | os.PathLike[str]) -> Footers:
     """Reads the end of a file: its row groups as zones, under the names of its columns, those of fields of structs with dots.
 
-    A column that repeats, or is of a type whose order isn't known, is unmapped. ParquetFault where the bytes are no footer, or one that is encrypted
-    or says what can't be; OSError where the file can't be read.
+    A column that repeats, is of a type whose order isn't known, or is one of several of its name is unmapped. Of a column chunk whose statistics can't
+    be, as a null count above its rows, nothing is known. ParquetFault where the bytes are no footer, or one that is encrypted, or whose schema and
+    row groups don't fit each other; OSError where the file can't be read.
     """
     try:
         return of_footer(_footer(path))
@@ -53,7 +57,7 @@ def of_footer(footer: bytes) -> Footers:
         raise ParquetFault(str(fault)) from None
     except ParquetFault:
         raise
-    except (IndexError, KeyError, TypeError, ValueError, AttributeError, struct.error, RecursionError) as fault:
+    except _MALFORMED as fault:
         raise ParquetFault(f"its footer can't be read: {fault!r}") from None
 
 
@@ -91,25 +95,32 @@ class _File:
 
     def __init__(self, told: dict[int, Any]):
         self.told = told
-        self.leaves = list(_leaves(told[2]))
+        leaves = list(_leaves(told[2]))
+        #: How many column chunks a row group has.
+        self.width = len(leaves)
+        counts = Counter(leaf.column.name for leaf in leaves)
+        columns = {leaf.column.name: leaf.column for leaf in leaves}
+        #: The columns by their names. Of several of one name nothing is known.
+        self.columns = [column if counts[name] == 1 else Column(name, Unmapped("one of several"), True) for name, column in columns.items()]
+        self.leaves = [leaf for leaf in leaves if counts[leaf.column.name] == 1]
         orders = told.get(7)
+        if orders is not None and len(orders) != self.width:
+            raise ParquetFault(f"it tells the orders of {len(orders)} columns, and has {self.width}")
         #: Whether the bounds of a column are in the order of its type.
-        self.is_ordered = [orders is not None and 1 in orders[leaf.place] for leaf in self.leaves]
-        if orders is not None and len(orders) != len(self.leaves):
-            raise ParquetFault(f"it tells the orders of {len(orders)} columns, and has {len(self.leaves)}")
+        self.is_ordered = [orders is not None and isinstance(orders[leaf.place], dict) and 1 in orders[leaf.place] for leaf in self.leaves]
 
     def footers(self) -> Footers:
-        zones = Zones(leaf.column for leaf in self.leaves)
+        zones = Zones(self.columns)
         for number, group in enumerate(self.told[4]):
             rows, chunks = group[3], group[1]
-            if not isinstance(rows, int) or not 0 <= rows < 2**63 or len(chunks) != len(self.leaves):
+            if not isinstance(rows, int) or not 0 <= rows < 2**63 or len(chunks) != self.width:
                 raise ParquetFault(f"row group {number} has {len(chunks)} columns and {rows} rows")
             zones.begin(rows)
             for leaf, is_ordered in zip(self.leaves, self.is_ordered):
                 try:
                     _tell(zones, leaf, chunks[leaf.place].get(3) or {}, is_ordered, rows)
-                except ToldFault as fault:
-                    raise ParquetFault(f"row group {number}, column {leaf.column.name}: {fault}") from None
+                except (ToldFault, *_MALFORMED):
+                    zones.forget(leaf.column.name)
         return zones.footers()
 
 
@@ -127,16 +138,24 @@ def _leaves(elements: list[dict[int, Any]]) -> Iterator[_Leaf]:
             raise ParquetFault(f"its schema is no tree of at most {MOST_LEVELS} levels")
         prefix, nullable, repeats, _ = pending[-1]
         pending[-1][3] -= 1
-        kind, name = it.get(3, 0), prefix + it[4].decode()
+        kind, name = it.get(3, 0), prefix + it[4].decode(errors="backslashreplace")
         nullable, repeats = nullable or kind > 0, repeats or kind == 2
         if it.get(5):
             pending.append([f"{name}.", nullable, repeats, int(it[5])])
         else:
-            known = Unmapped("repeated") if repeats else _type(it)
-            yield _Leaf(Column(name, known, nullable), place, it[1], repeats)
+            known = Unmapped("repeated") if repeats else _known_type(it)
+            yield _Leaf(Column(name, known, nullable), place, it.get(1, -1), repeats)
             place += 1
     if any(left for _, _, _, left in pending):
         raise ParquetFault("its schema ends too soon")
+
+
+def _known_type(it: dict[int, Any]) -> DType | Logical:
+    """Returns the type of a column by its element of the schema; an unmapped one where that says what can't be."""
+    try:
+        return _type(it)
+    except _MALFORMED:
+        return Unmapped("unknown")
 
 
 def _type(it: dict[int, Any]) -> DType | Logical:
@@ -200,7 +219,7 @@ def _tell(zones: Zones, leaf: _Leaf, meta: dict[int, Any], is_ordered: bool, row
     if leaf.repeats or not told:
         return
     if nulls is not None:
-        if not 0 <= nulls <= rows or meta.get(5) != rows:
+        if type(nulls) is not int or not 0 <= nulls <= rows or meta.get(5) != rows:
             raise ToldFault(f"{nulls} of {rows} rows are null, by {meta.get(5)} values")
         zones.nulls(leaf.column.name, nulls)
     if isinstance(leaf.column.logical, Unmapped):

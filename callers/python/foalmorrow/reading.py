@@ -404,6 +404,7 @@ def _of_pandas(dtype: DType, given: Any, marks: bytes | None, where: Where) -> R
 
     if isinstance(given, pandas.DataFrame):
         raise where.fault("a frame has 2 dimensions; expected one")
+    given = as_series(given)
     kind = given.dtype
     if isinstance(kind, numpy.dtype):
         return _of_numpy(dtype, given.to_numpy(), marks, where)
@@ -416,6 +417,22 @@ def _of_pandas(dtype: DType, given: Any, marks: bytes | None, where: Where) -> R
         raise where.fault(f"values of pandas' type {kind} are no {dtype.word}; {_advice(dtype, kind)}")
     # Texts, and types that a user or another package has made: by their items.
     return _of_items(dtype, numpy.asarray(held, dtype=object).tolist(), marks, where)
+
+
+def as_series(given: Any) -> Any:
+    """Returns a sparse array of pandas, and one that pandas holds by numpy's, as a Series with all items; another container of pandas as it is."""
+    import pandas
+
+    if isinstance(given, getattr(pandas.arrays, "NumpyExtensionArray", None) or pandas.arrays.PandasArray):
+        return pandas.Series(given.to_numpy())
+    # An index of several levels has no single array.
+    is_single = isinstance(given, (pandas.Series, pandas.Index)) and not isinstance(given, pandas.MultiIndex)
+    held = given.array if is_single else given
+    if not isinstance(held, pandas.arrays.SparseArray):
+        return given
+    items = numpy.asarray(held)
+    # A filler of another type would have numpy round the values to a type that holds both.
+    return pandas.Series(items if items.dtype == held.dtype.subtype else numpy.asarray(held, dtype=object))
 
 
 def of_categories(dtype: DType | Logical, held: Any, marks: bytes | None, where: Where) -> Read:

@@ -95,6 +95,13 @@ class _Cells:
         self.values.append(value)
         self.known.append(1 if exact else 2)
 
+    def forget(self, zone: int) -> None:
+        """Takes back what was added last of a zone."""
+        while self.zones and self.zones[-1] == zone:
+            self.zones.pop()
+            self.values.pop()
+            self.known.pop()
+
 
 #: The statistics that tables tell, in the order of a column's cells.
 _STATS = (Stat.MIN, Stat.MAX, Stat.NULL_COUNT)
@@ -138,6 +145,11 @@ class Zones:
     def tell(self, name: str, stat: Stat, value: Any, exact: bool) -> None:
         """Tells a statistic of a column in the file that was begun last, by a value of the physical type, texts as UTF-8."""
         self._cells[name][_STATS.index(stat)].add(len(self.rows) - 1, value, exact)
+
+    def forget(self, name: str) -> None:
+        """Takes back what was told of a column in the file that was begun last: of one of which it is told what can't be, nothing is known there."""
+        for cells in self._cells[name]:
+            cells.forget(len(self.rows) - 1)
 
     def footers(self, names: Iterable[str] | None = None) -> Footers:
         """Returns the footers of some columns, or of all. Names that the table hasn't are left out."""

@@ -55,6 +55,9 @@ class Spot(NamedTuple):
 class Numbered(Logical):
     """A logical type over whole numbers."""
 
+    #: Whether a column may have values without a number, which lie below or above all numbers, as PostgreSQL's infinity and NaN.
+    is_open = False
+
     def spot(self, literal: Any) -> Spot:
         """Returns where a literal lies among the type's numbers. LiteralFault where it is no literal of the type.
 
@@ -62,6 +65,17 @@ class Numbered(Logical):
         Spot(number=100, exact=False, rounded=None)
         """
         raise NotImplementedError
+
+    def decides(self, spot: Spot) -> bool:
+        """Tells whether a comparison with a literal at this place is one of numbers. In an open type the literal has to lie between the least and the
+        greatest number: a value without one may lie on either side of any other literal.
+
+        >>> Decimal(5, 2).decides(Spot(2**63))
+        True
+        """
+        assert self.dtype.range is not None
+        low, high = self.dtype.range
+        return not self.is_open or low < spot.number < high - (not spot.exact)
 
     def stored(self, item: Any) -> int | None:
         try:
@@ -106,6 +120,7 @@ class Date(Numbered):
     dtype = DType.I32
     word = "date"
     expected = "a date, or a datetime at midnight or an ISO text without a zone"
+    field = (12, 0, 0, 0)
 
     def spot(self, literal: Any) -> Spot:
         found = instant(literal)
@@ -141,6 +156,10 @@ class Time(Numbered):
         _check_unit(self.unit)
 
     @property
+    def field(self) -> tuple[int, int, int, int]:
+        return 13, _UNITS[self.unit], 0, 0
+
+    @property
     def word(self) -> str:
         return f"time[{self.unit}]"
 
@@ -170,8 +189,12 @@ class Time(Numbered):
         return f"TIME '{clock_text(found.ticks, found.parts)}'"
 
 
+#: The library's numbers of units.
+_UNITS = {"s": 1, "ms": 2, "us": 3, "ns": 4}
+
+
 def _check_unit(unit: str) -> None:
-    if unit not in ("s", "ms", "us", "ns"):
+    if unit not in _UNITS:
         raise ValueError(f"{shown(unit)} is no unit; expected s, ms, us or ns")
 
 
@@ -194,6 +217,10 @@ class Timestamp(Numbered):
         _check_unit(self.unit)
         if self.tz is not None and (not isinstance(self.tz, str) or not re.fullmatch(r"[!-~]+", self.tz)):
             raise ValueError(f"{shown(self.tz)} is no zone; expected a name as 'UTC', or None for naive instants")
+
+    @property
+    def field(self) -> tuple[int, int, int, int]:
+        return 14 if self.tz is None else 15, _UNITS[self.unit], 0, 0
 
     @property
     def word(self) -> str:
@@ -256,6 +283,10 @@ class Decimal(Numbered):
             raise ValueError(f"decimal({shown(self.precision)}, {shown(self.scale)}) is no type; expected 1 to 18 digits, and no more behind the point")
 
     @property
+    def field(self) -> tuple[int, int, int, int]:
+        return 16, 0, self.precision, self.scale
+
+    @property
     def word(self) -> str:
         return f"decimal({self.precision}, {self.scale})"
 
@@ -267,7 +298,7 @@ class Decimal(Numbered):
         value = plain(literal)
         if isinstance(value, str) and _DIGITS.fullmatch(value):
             value = decimal.Decimal(value)
-        if isinstance(value, bool) or not isinstance(value, (int, decimal.Decimal)) or value != value:
+        if isinstance(value, bool) or not isinstance(value, (int, decimal.Decimal)) or (isinstance(value, decimal.Decimal) and value.is_nan()):
             raise self._fault(literal)
         if isinstance(value, int):
             return Spot(value * 10**self.scale)

@@ -308,6 +308,24 @@ class Arrays(unittest.TestCase):
             read_column(column, spoiled((13, b"thir", 0, 0), (-1,)))
         with self.assertRaisesRegex(ValueFault, "has 2 buffers; expected 3"):
             read_column(column, Array("vu", 0, [None, b""]))
+
+        def lying(count: int) -> Array:
+            return spoiled((13, b"thir", 0, 0)).change(lambda _, array: setattr(array, "n_buffers", count))
+
+        for count in (-(2**63), -1, 0, 2):
+            with self.assertRaisesRegex(ValueFault, f"format 'vu' has {count} buffers; expected 3"):
+                read_column(column, lying(count))
+        with self.assertRaisesRegex(ValueFault, "a view lies outside of its buffers"):
+            read_column(column, lying(3))
+        for count in (2**20 + 4, 2**40, 2**63 - 1):
+            with self.assertRaisesRegex(ValueFault, f"an array of views has {count} buffers; expected at most 1048576"):
+                read_column(column, lying(count))
+        # Behind the addresses of the buffers anything may stand, and what no memory holds is refused.
+        for count in (5, 6, 7, 100, 1000, 10**5, 2**20 + 3):
+            try:
+                self.assertEqual(stored(column, read_column(column, lying(count))), [text.encode()])
+            except ValueFault as fault:
+                self.assertRegex(str(fault), "column c.*expected")
         self.assertEqual(stored(column, read_column(column, Array("vu", 0, [None, b"", b""]))), [])
 
     def test_offsets_spoiled(self) -> None:

@@ -16,8 +16,8 @@ except ImportError:
 
 #: Modules whose examples run without a database, a cluster or pandas.
 MODULES = [
-    "answers", "arrays", "explain", "filters", "floats", "footers", "instants", "items", "kinds", "library", "logical_sql", "lowering", "overlap", "predicate", "reading",
-    "spelling", "sql", "statistic", "strict_json", "tables", "types",
+    "answers", "arrays", "explain", "filters", "floats", "footers", "instants", "items", "kinds", "library", "lowering", "overlap", "predicate", "reading",
+    "spelling", "sql", "stamps", "statistic", "strict_json", "tables", "types",
 ]
 MODULES += ["arrow", "interchange", "layouts", "logical_reading"] if numpy is not None else []
 MODULES += ["frames"] if importlib.util.find_spec("pandas") is not None else []

@@ -2,16 +2,20 @@
 """Files of footers: whatever the bytes are, they are footers or a FooterError."""
 import json
 import os
+import pathlib
 import random
 import stat as modes
 import tempfile
+import time
 import unittest
+import unittest.mock
 import zlib
 from array import array
 from typing import Any
 
 from foalmorrow import Column, DType, FooterError, Footers, Precision, Stat, Statistic, Values
 from foalmorrow.files import MAGIC
+from foalmorrow.stamps import Stamp, stamp_of
 
 SEED = int(os.environ.get("FOALMORROW_SEED", "1"))
 A, S, B = Column("a", DType.I64, True), Column("s", DType.UTF8), Column("b", DType.BOOL)
@@ -231,6 +235,54 @@ class Saving(unittest.TestCase):
         self.assertEqual((Footers.load_with_note(self.path)[1], os.listdir(self.folder)), ("old", ["footers"]))
         with self.assertRaises(OSError):
             small().save(os.path.join(self.folder, "no", "such"))
+
+
+class Stamps(unittest.TestCase):
+    def setUp(self) -> None:
+        home = tempfile.TemporaryDirectory()
+        self.addCleanup(home.cleanup)
+        self.folder = pathlib.Path(home.name)
+        (self.folder / "in").mkdir()
+        for name in ("a", "b", "in/c"):
+            (self.folder / name).write_bytes(b"1234")
+
+    def stamps(self) -> tuple[Stamp, Stamp]:
+        return stamp_of(str(self.folder / "a")), stamp_of(str(self.folder))
+
+    def test_nothing_changed(self) -> None:
+        self.assertEqual(self.stamps(), self.stamps())
+        self.assertEqual((self.stamps()[0].size, self.stamps()[1].size), (4, 12))
+
+    def test_each_change_of_a_folder_is_seen(self) -> None:
+        def swap() -> None:
+            for source, goal in (("a", "d"), ("b", "a"), ("d", "b")):
+                (self.folder / source).rename(self.folder / goal)
+
+        def replace(name: str, data: bytes) -> None:
+            told = (self.folder / name).stat()
+            (self.folder / name).write_bytes(data)
+            os.utime(self.folder / name, ns=(told.st_atime_ns, told.st_mtime_ns))
+
+        changes = [
+            swap, lambda: replace("b", b"4321"), lambda: replace("in/c", b"4321"), lambda: replace("a", b"43210"),
+            lambda: (self.folder / "b").rename(self.folder / "e"), lambda: (self.folder / "in/c").unlink(),
+        ]
+        for change in changes:
+            before = self.stamps()[1]
+            time.sleep(0.02)
+            change()
+            self.assertNotEqual(before, self.stamps()[1])
+
+    def test_names_of_the_same_sizes_and_times_are_told_apart(self) -> None:
+        told = os.stat(self.folder / "a")
+        with unittest.mock.patch.object(os, "stat", side_effect=lambda path: os.lstat(path) if os.path.basename(path) not in ("a", "f") else told):
+            before = self.stamps()[1]
+            os.rename(self.folder / "a", self.folder / "f")
+            self.assertNotEqual(before, stamp_of(str(self.folder)))
+
+    def test_what_is_gone_is_an_error(self) -> None:
+        with self.assertRaises(FileNotFoundError):
+            stamp_of(str(self.folder / "z"))
 
 
 if __name__ == "__main__":

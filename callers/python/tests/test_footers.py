@@ -129,7 +129,7 @@ class Program(unittest.TestCase):
 
 
     def test_version_of_the_library(self) -> None:
-        self.assertRegex(version(), r"^0\.2\.\d+$")
+        self.assertRegex(version(), r"^0\.3\.\d+$")
 
 
 class Measuring(unittest.TestCase):

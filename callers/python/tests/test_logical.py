@@ -22,7 +22,7 @@ from hypothesis import strategies as st
 
 from foalmorrow import PRUNING, Answer, Column, DType, Date, Decimal, Enum, FixedBinary, Float32, Float64, FooterError, Footers, Nullable, Precision, Predicate
 from foalmorrow import PredicateError, Refused, Stat, Time, Timestamp, Unmapped, Uuid, ValueFault, Values, col, opaque
-from foalmorrow import frames
+from foalmorrow import UnreadWarning, brin, frames
 from foalmorrow.reading import read_column
 from tests import producer
 from tests.test_containers import odd_containers, odd_items
@@ -339,7 +339,7 @@ class Refusals(unittest.TestCase):
                               [datetime.datetime(2026, 1, 1), datetime.datetime(2026, 1, 1, tzinfo=UTC)], pandas.Series(numpy.array([0, second], "M8[ns]"))]),
             (Timestamp("ns"), [numpy.array([0, 10**10], "M8[s]"), ["2026-01-01", datetime.datetime(9999, 1, 1)], numpy.array([0, 300], "M8[Y]")]),
             (Timestamp("us", "UTC"), [[datetime.datetime(2026, 1, 1, tzinfo=UTC), datetime.datetime(2026, 1, 1)], ["2026-01-01 00:00Z", "2026-01-01"]]),
-            (Decimal(3, 1), [[1, 1.5], [1, decimal.Decimal("1.55")], [1, 100], numpy.array([1, 100]), numpy.array([1, 2**63], "u8"), [1, decimal.Decimal("NaN")], [1, True],
+            (Decimal(3, 1), [[1, 1.5], [1, decimal.Decimal("1.55")], [1, 100], numpy.array([1, 100]), numpy.array([1, 2**63], "u8"), [1, decimal.Decimal("NaN")], [1, True], [1, decimal.Decimal("sNaN")],
                              Values.of(DType.I64, [0, 1000])]),
             (Float32(), [[1.0, 0.1], numpy.array([1.0, 0.1]), numpy.array([1, 2**24 + 1]), [1.0, "x"], [1.0, True]]),
             (Float64(), [numpy.array([1, 2**53 + 1]), numpy.array([1, 2**64 - 1], "u8"), [1.0, 2**53 + 1], [1, decimal.Decimal("0.1")]]),
@@ -368,6 +368,15 @@ class Refusals(unittest.TestCase):
         for series in (pandas.Series([1.0, math.nan]), pandas.Series([1.0, math.nan], dtype=object), pandas.Index([1.0, math.nan])):
             with self.assertRaisesRegex(ValueFault, r"column c, row 1: NaN in a Series may be a value or null.*hand in .to_numpy\(\)"):
                 read_column(Column("c", Float64(), True), series)
+        sparse = pandas.arrays.SparseArray([1.0, math.nan])
+        of_numpy = getattr(pandas.arrays, "NumpyExtensionArray", None) or pandas.arrays.PandasArray
+        for column in (Column("c", Float64(), True), Column("c", Float32(), True), Column("c", Unmapped("x"), True)):
+            filled = pandas.arrays.SparseArray([1.0, math.nan], fill_value=1.0)
+            for held in (sparse, filled, pandas.Series(sparse), of_numpy(numpy.array([1.0, math.nan]))):
+                with self.assertRaisesRegex(ValueFault, "column c, row 1: NaN in a Series may be a value or null"):
+                    read_column(column, held)
+                self.assertEqual(read_column(column, Nullable(held, [False, True])).nulls, b"\0\1")
+        self.assertEqual(read_column(Column("c", Float64(), True), pandas.arrays.SparseArray([1.5, 0.0])), read_column(Column("c", Float64(), True), [1.5, 0.0]))
         marked = Nullable(pandas.Series([1.0, math.nan]), [False, True])
         self.assertEqual(read_column(Column("c", Float64(), True), marked).nulls, b"\0\1")
 
@@ -423,6 +432,73 @@ class Odd(unittest.TestCase):
                 self.answered(lambda: read_column(column, Nullable(container, [0, 1])))
                 self.answered(lambda: Footers.of_values([column], [1, 1], {("c", Stat.MIN): (container, 1)}))
                 self.answered(lambda: Footers([column], [1]).prune(col("c").is_in(container)))
+
+
+class OpenTypes(unittest.TestCase):
+    """Columns of a server that has values without a number: infinity and NaN."""
+
+    def footers(self, dtype: str, whole: str, value: str) -> Footers:
+        kind = brin._type(dtype, whole)
+        assert kind is not None
+        ranges = brin._Ranges("an index", [Column("c", kind, True)], 1, 1)
+        ranges.add(["0", "1", "f", "f", "f", value, "ISO, YMD", "UTC"])
+        return ranges.footers()
+
+    def assert_read(self, footers: Footers, literals: list[Any], texts: list[str]) -> None:
+        """By each test of the column with one of these literals, or texts in SQL, nothing is skipped or whole."""
+        for literal in literals:
+            for compare in (operator.eq, operator.ne, operator.lt, operator.le, operator.gt, operator.ge):
+                for wanted in (compare(col("c"), literal), ~compare(col("c"), literal)):
+                    self.assertEqual(list(footers.prune(wanted)), [Answer.READ], wanted)
+            near = footers.at(0)["c", Stat.MIN][1]
+            for wanted in (col("c").between(near, literal), col("c").between(literal, near), ~col("c").between(near, literal), col("c").isin([literal])):
+                self.assertEqual(list(footers.prune(wanted)), [Answer.READ], wanted)
+        for text in texts:
+            with self.assertWarns(UnreadWarning):
+                self.assertEqual(list(footers.prune(text)), [Answer.READ], text)
+
+    def test_numeric_with_nan(self) -> None:
+        footers = self.footers("numeric", "numeric(12,3)", "{1.500 .. NaN}")
+        far = [10**20, -(10**20), decimal.Decimal("9223372036854775.807"), decimal.Decimal("-9223372036854775.808"), decimal.Decimal("Infinity")]
+        self.assert_read(footers, far, ["c > 100000000000000000000", "NOT c < 100000000000000000000", "c IN (100000000000000000000)", "100000000000000000000 < c"])
+        near = [col("c") < 1, col("c") == 1, col("c").between(0, 1), ~(col("c") > 1)]
+        self.assertEqual([list(footers.prune(wanted)) for wanted in near], [[Answer.SKIP]] * 4)
+        self.assertEqual(list(footers.prune("c < 1")), [Answer.SKIP])
+        # Below the last number the literal is one among the numbers.
+        inside = decimal.Decimal("9223372036854775.806")
+        self.assertEqual([list(footers.prune(wanted)) for wanted in (col("c") > inside, ~(col("c") <= inside))], [[Answer.READ]] * 2)
+
+    def test_numeric_without_bounds_at_its_ends(self) -> None:
+        footers = self.footers("numeric", "numeric(12,3)", "{1.500 .. 2.500}")
+        self.assertEqual([list(footers.prune(wanted)) for wanted in (col("c") > 10**15, col("c") < 10**15)], [[Answer.SKIP], [Answer.WHOLE]])
+        self.assert_read(footers, [10**16], ["c < 10000000000000000"])
+
+    def test_instants_with_infinity(self) -> None:
+        for dtype, zone in (("timestamp without time zone", ""), ("timestamp with time zone", "+00:00")):
+            footers = self.footers(dtype, dtype, f"{{2024-01-01 00:00:00{zone[:3]} .. infinity}}")
+            far = ["+300000-01-01 00:00:00", "+294247-01-10 04:00:54.775807", "+294247-01-10 04:00:54.7758065", "-300000-01-01 00:00:00", "-290308-12-21 19:59:05.224192"]
+            self.assert_read(footers, [f"{it}{zone}" for it in far], [])
+            self.assertEqual(list(footers.prune(col("c") < f"2023-01-01 00:00:00{zone}")), [Answer.SKIP])
+            self.assertEqual(list(footers.prune(col("c") > f"+294247-01-10 04:00:54.775806{zone}")), [Answer.READ])
+        days = self.footers("date", "date", "{2024-01-01 .. infinity}")
+        self.assert_read(days, ["+6000000-01-01", "-6000000-01-01"], [])
+        self.assertEqual(list(days.prune(col("c") < datetime.date(2023, 1, 1))), [Answer.SKIP])
+
+    def test_instants_after_the_last_number_are_unknown(self) -> None:
+        word = "timestamp without time zone"
+        last, behind = "294247-01-10 04:00:54.775806", "294247-01-10 04:00:54.775807"
+        for least, greatest, known in [
+            ("2024-01-01 00:00:00", last, {Stat.MIN, Stat.MAX}), ("2024-01-01 00:00:00", behind, {Stat.MIN}), ("2024-01-01 00:00:00", "294276-12-31 00:00:00", {Stat.MIN}),
+            (behind, "294276-12-31 00:00:00", set()), ("294276-12-31 00:00:00", "infinity", {Stat.MAX}),
+        ]:
+            footers = self.footers(word, word, f"{{{least} .. {greatest}}}")
+            self.assertEqual({stat for _, stat in footers.at(0) if stat != Stat.NULL_COUNT}, known, (least, greatest))
+            if least == "294276-12-31 00:00:00":
+                self.assertEqual(list(footers.prune(col("c") < "2024-01-01")), [Answer.READ])
+
+    def test_file_of_such_footers_is_refused(self) -> None:
+        with self.assertRaisesRegex(FooterError, "column c: no file holds this type: _Date"):
+            self.footers("date", "date", "{2024-01-01 .. infinity}").to_bytes()
 
 
 class Statistics(unittest.TestCase):

@@ -2,11 +2,13 @@
 """Row groups of Parquet footers by conditions in SQL, beside a direct filter of the rows of which the footers were written."""
 from __future__ import annotations
 
+import datetime
 import io
 import os
 import pathlib
 import random
 import tempfile
+import time
 import unittest
 import warnings
 from typing import Any
@@ -21,11 +23,37 @@ from foalmorrow.thrift_compact import Thrift
 from tests.parquet_footers_of import Wide, file_of, footer, struct_of
 from tests.parquet_pages_of import PagedFile
 from tests.systems.parquet_writer import Raw, thrift
-from tests.test_sql import CONDITIONS, Condition, Row, zones
+from tests.test_sql import COMPARISONS, CONDITIONS, PLAIN_LEAVES, Condition, Row, compared, conditions_of, of_day, zones
 
 SEED = int(os.environ.get("FOALMORROW_SEED", "1"))
 #: How many files and conditions are drawn; 20000 for the count of a release.
 EXAMPLES = int(os.environ.get("FOALMORROW_EXAMPLES", "3000"))
+
+
+def date(day: int) -> str:
+    """The date so many days from 1970."""
+    return str(datetime.date(1970, 1, 1) + datetime.timedelta(day))
+
+
+def of_date(sign: str, day: int, word: str) -> Condition:
+    return compared("day", sign, (day,), ("day", f"{word}'{date(day)}'"))
+
+
+SIGNS = st.sampled_from([sign for sign, _ in COMPARISONS])
+#: Conditions that compare dates, and leave texts beside them unread which are no dates.
+DATED = conditions_of(
+    *PLAIN_LEAVES, st.builds(of_date, SIGNS, st.integers(-4, 9), st.sampled_from(["", "DATE ", "date  "])), st.builds(of_day, SIGNS, st.sampled_from(["'x'", "f(1)"]))
+)
+
+
+@st.composite
+def dated_zones(draw: st.DrawFn) -> list[list[Row]]:
+    """Zones of rows that have days."""
+    found: list[list[Row]] = []
+    for zone in draw(zones()):
+        base = draw(st.integers(-3, 6))
+        found.append([{**row, "day": draw(st.none() | st.integers(base, base + 2))} for row in zone])
+    return found
 
 
 def quietly(file: parquet.File, condition: str, **options: Any) -> parquet.RowGroups:
@@ -34,19 +62,9 @@ def quietly(file: parquet.File, condition: str, **options: Any) -> parquet.RowGr
         return file.prune(condition, **options)
 
 
-def footers_of(file: parquet.File) -> Footers | None:
-    """The footers of a file, or nothing where they are refused for a number of nulls that no column has."""
-    try:
-        return file.footers
-    except ParquetFault as fault:
-        if "rows are null" not in str(fault):
-            raise
-        return None
-
-
 class BesideAModel(unittest.TestCase):
     @settings(max_examples=EXAMPLES, deadline=None)
-    @given(CONDITIONS, zones(), st.integers(0, 2**32))
+    @given(DATED, dated_zones(), st.integers(0, 2**32))
     def test_no_row_is_lost(self, wanted: Condition, groups: list[list[Row]], dice: int) -> None:
         file = parquet.open(file_of(footer(groups, random.Random(dice))))
         found = quietly(file, wanted.text)
@@ -64,9 +82,7 @@ class BesideAModel(unittest.TestCase):
     @given(CONDITIONS, zones(), st.integers(0, 2**32))
     def test_no_row_is_lost_by_footers(self, wanted: Condition, groups: list[list[Row]], dice: int) -> None:
         file = parquet.File(footer(groups, random.Random(dice)))
-        footers = footers_of(file)
-        if footers is None:
-            return
+        footers = file.footers
         with warnings.catch_warnings():
             warnings.simplefilter("ignore", UnreadWarning)
             found = footers.prune(wanted.text)
@@ -77,8 +93,8 @@ class BesideAModel(unittest.TestCase):
 
     def test_footers_have_the_types_that_sql_has_no_columns_of(self) -> None:
         groups = [[row(day=10), row(day=20)], [row(day=30), row(day=31)]]
-        files = [footers_of(parquet.File(footer(groups, random.Random(dice)))) for dice in range(100)]
-        answers = {day: {tuple(it.prune(f"day >= DATE '{day}'")) for it in files if it is not None} for day in ("1970-01-22", "1970-02-01")}
+        files = [parquet.File(footer(groups, random.Random(dice))).footers for dice in range(100)]
+        answers = {day: {tuple(it.prune(f"day >= DATE '{day}'")) for it in files} for day in ("1970-01-22", "1970-02-01")}
         self.assertIn((Answer.SKIP, Answer.WHOLE), answers["1970-01-22"])
         self.assertLessEqual(answers["1970-02-01"], {(Answer.READ, Answer.READ), (Answer.SKIP, Answer.READ), (Answer.READ, Answer.SKIP)})
         self.assertIn((Answer.SKIP, Answer.READ), answers["1970-02-01"])
@@ -116,7 +132,7 @@ def place_of(offset: int | None) -> Wide | None:
 
 class PagesBesideAModel(unittest.TestCase):
     @settings(max_examples=EXAMPLES, deadline=None)
-    @given(CONDITIONS, st.lists(zones(), min_size=1, max_size=3), st.integers(0, 2**32))
+    @given(DATED, st.lists(dated_zones(), min_size=1, max_size=3), st.integers(0, 2**32))
     def test_no_row_is_lost(self, wanted: Condition, drawn: list[list[list[Row]]], dice: int) -> None:
         groups = [[row for zone in zones for row in zone] for zones in drawn]
         rows = [row for group in groups for row in group]
@@ -169,9 +185,16 @@ def named_pages(data: bytes) -> list[tuple[int, ...]]:
     return found
 
 
+class MoreRowsThanSixtyFourBits(unittest.TestCase):
+    def test_row_groups_of_most_rows_are_placed_exactly(self) -> None:
+        most = 2**63 - 1
+        found = parquet.RowRanges(Answers([0, 1, 2]), [0, 1, 2], [0, 0, 0], [most, most, most])
+        self.assertEqual((found.ranges(), found.rows_skipped), ([(0, most), (2 * most, 3 * most)], most))
+
+
 class DataPagesBesideAModel(unittest.TestCase):
     @settings(max_examples=EXAMPLES, deadline=None)
-    @given(CONDITIONS, st.lists(zones(), min_size=1, max_size=3), st.integers(0, 2**32))
+    @given(DATED, st.lists(dated_zones(), min_size=1, max_size=3), st.integers(0, 2**32))
     def test_bytes_saved_are_those_of_pages_of_skipped_rows(self, wanted: Condition, drawn: list[list[list[Row]]], dice: int) -> None:
         groups = [[row for zone in zones for row in zone] for zones in drawn]
         data = bytes(PagedFile(groups, random.Random(dice)).data)
@@ -312,9 +335,35 @@ class Pages(unittest.TestCase):
             self.assertEqual(pages_quietly(file, "n < 10").ranges(), wanted)
             with self.assertRaisesRegex(OSError, "when its footer was read"):
                 later.prune_pages("n < 10")
+            self.assert_no_other_file_is_joined(path, data)
         # Bytes that don't begin as a file does may be its end, of which it isn't known where it begins.
         for file in (parquet.open(b"end" + data), parquet.File(parquet.open(data).footer)):
             self.assertEqual(pages_quietly(file, "n < 10").ranges(), [(0, 40)] if list(quietly(file, "n < 10").kept) == [0] else [(0, 60)])
+
+    def assert_no_other_file_is_joined(self, path: pathlib.Path, data: bytes) -> None:
+        """Neither one of the same size that takes its place, nor new bytes under its times."""
+        path.write_bytes(data)
+        told = path.stat()
+        other = path.with_name("b.parquet")
+        other.write_bytes(data)
+        os.utime(other, ns=(told.st_atime_ns, told.st_mtime_ns))
+
+        def rewritten() -> None:
+            path.write_bytes(bytes(data))
+            os.utime(path, ns=(told.st_atime_ns, told.st_mtime_ns))
+
+        for change in (lambda: os.replace(other, path), rewritten):
+            file = parquet.open(path)
+            time.sleep(0.02)
+            change()
+            with self.assertRaisesRegex(OSError, "was changed, or replaced by another one, since its footer was read"):
+                file.prune_pages("n < 10")
+        with path.open("rb") as kept:
+            file = parquet.open(kept)
+            time.sleep(0.02)
+            rewritten()
+            with self.assertRaisesRegex(OSError, "was changed"):
+                file.data_pages()
 
     def test_a_file_without_indexes_is_pruned_by_its_row_groups(self) -> None:
         file = parquet.open(file_of(footer([[row(n=1), row(n=3)], [row(n=7)]], random.Random(2))))
@@ -422,14 +471,14 @@ class Sources(unittest.TestCase):
 
     def test_unread_tests_are_told_once(self) -> None:
         with self.assertWarns(UnreadWarning) as told:
-            found = parquet.open(self.DATA).prune("n > 2 AND lower(s) = 'é' AND day > 5")
-        self.assertEqual(found.unread, ("lower(s) = 'é'", "day > 5"))
-        self.assertEqual(found.explained().splitlines()[1:], ["not read, at character 10: lower(s) = 'é'", "not read, at character 29: day > 5"])
+            found = parquet.open(self.DATA).prune("n > 2 AND lower(s) = 'é' AND week > 5")
+        self.assertEqual(found.unread, ("lower(s) = 'é'", "week > 5"))
+        self.assertEqual(found.explained().splitlines()[1:], ["not read, at character 10: lower(s) = 'é'", "not read, at character 29: week > 5"])
         self.assertEqual(told.filename, __file__)
 
 
 class Columns(unittest.TestCase):
-    """A schema with a list, a group, a name twice, a timestamp, a decimal and a floating number."""
+    """A schema with a list, a group, a name twice, an instant, a decimal and a floating number."""
 
     def file(self) -> parquet.File:
         elements = [
@@ -454,13 +503,35 @@ class Columns(unittest.TestCase):
                 self.file().prune(f"n = 5 AND {name} IS NULL AND repeated = 1")
             self.assertEqual((told.exception.start, told.exception.end), (10, 10 + len(name) + 8))
 
-    def test_numbers_that_stand_for_something_else_are_never_compared(self) -> None:
-        for name in ("at", "price", "x", "below", "nowhere"):
+    def test_columns_of_which_nothing_is_known_are_never_compared(self) -> None:
+        for name in ("x", "below", "nowhere"):
             for test in (f"{name} = 5", f"{name} > 5", f"NOT {name} < 6", f"{name} IN (6, 7)", f"{name} = {name}"):
                 found = quietly(self.file(), test)
                 self.assertEqual((list(found), len(found.unread)), ([Answer.READ], 1), test)
                 self.assertEqual(list(quietly(self.file(), f"n > 5 AND {test}")), [Answer.SKIP])
         self.assertEqual(list(quietly(self.file(), "n = 5")), [Answer.WHOLE])
+
+    def test_numbers_are_compared_by_what_they_stand_for(self) -> None:
+        # The price is 0.05, and the instant 5 microseconds behind the beginning of 1970.
+        instant = "1970-01-01 00:00:00.000005+00"
+        cases = {
+            "price = 0.05": Answer.WHOLE, "price = 5": Answer.SKIP, "price > 0.049": Answer.WHOLE, "price IN (5, 0.06)": Answer.SKIP,
+            f"at = TIMESTAMPTZ '{instant}'": Answer.WHOLE, f"at > '{instant}'": Answer.SKIP, "at < '1970-01-01 01:00:00.000005+01'": Answer.SKIP,
+        }
+        for test, answer in cases.items():
+            found = quietly(self.file(), test)
+            self.assertEqual((list(found), found.unread), ([answer], ()), test)
+
+    def test_a_number_beside_an_instant_is_refused(self) -> None:
+        for test in ("at = 5", "5 < at", "at BETWEEN 1 AND 2", "at IN (5)"):
+            with self.assertRaises(SqlError) as told:
+                self.file().prune(f"n = 5 AND {test}")
+            self.assertEqual((told.exception.start, told.exception.end), (10, 10 + len(test)), test)
+
+    def test_a_time_without_a_zone_beside_an_instant_is_left_unread(self) -> None:
+        for test in ("at > '1970-01-02'", "at > TIMESTAMP '1970-01-02 00:00:00'", "at > DATE '1970-01-02'"):
+            found = quietly(self.file(), test)
+            self.assertEqual((list(found), found.unread), ([Answer.READ], (test,)), test)
 
     def test_names_of_several_parts(self) -> None:
         self.assertEqual(quietly(self.file(), "t.n > 5").unread, ("t.n > 5",))

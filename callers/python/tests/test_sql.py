@@ -4,6 +4,7 @@ from __future__ import annotations
 
 import atexit
 import datetime
+import itertools
 import tempfile
 import unittest
 import warnings
@@ -14,8 +15,9 @@ from hypothesis import configuration, given, settings
 from hypothesis import strategies as st
 
 from foalmorrow import (
-    Answer, Column, Date, Decimal, DType, Enum, Float64, Footers, PredicateError, Refused, SqlError, Stat, Statistic, Timestamp, UnreadWarning, Uuid, Values, col,
+    PRUNING, Answer, Column, Date, Decimal, DType, Enum, Float64, Footers, PredicateError, Refused, SqlError, Stat, Statistic, Time, Timestamp, UnreadWarning, Uuid, Values, col,
 )
+from foalmorrow import clickhouse
 from foalmorrow.sql import underlined
 
 _HOME = tempfile.TemporaryDirectory()
@@ -122,11 +124,12 @@ def unread(place: int) -> Condition:
 
 
 def of_day(sign: str, literal: str) -> Condition:
-    """A test of a column that is kept as days since 1970, against whatever: it isn't read."""
+    """A test of a column of dates against what is no date that is read."""
     return Condition(f"day {sign} {literal}", lambda row: row["hidden"][0], (f"day {sign} {literal}",))
 
 
-LEAVES = st.one_of(
+#: Tests of columns whose cells are the values themselves, and tests that aren't read.
+PLAIN_LEAVES = [
     comparisons("n", st.integers(-9, 9) | st.sampled_from([-129, 128, 10**30]), str),
     comparisons("s", TEXTS, quoted),
     comparisons("t", st.booleans(), lambda it: str(it).upper()),
@@ -138,8 +141,7 @@ LEAVES = st.one_of(
     st.builds(null_test, st.sampled_from(["n", "s", "t"]), st.booleans()),
     st.just(Condition("t", lambda row: row["t"])),
     st.builds(unread, st.sampled_from([0, 1])),
-    st.builds(of_day, st.sampled_from(["=", ">", "<>"]), st.sampled_from(["5", "'x'", "f(1)"])),
-)
+]
 
 
 def joined(is_and: bool, left: Condition, right: Condition) -> Condition:
@@ -163,7 +165,11 @@ def extended(inner: st.SearchStrategy[Condition]) -> st.SearchStrategy[Condition
     )
 
 
-CONDITIONS = st.recursive(LEAVES, extended, max_leaves=6)
+def conditions_of(*leaves: st.SearchStrategy[Condition]) -> st.SearchStrategy[Condition]:
+    return st.recursive(st.one_of(*leaves), extended, max_leaves=6)
+
+
+CONDITIONS = conditions_of(*PLAIN_LEAVES, st.builds(of_day, st.sampled_from(["=", ">", "<>"]), st.sampled_from(["DATE '2026-02-30'", "'x'", "f(1)"])))
 TRUTHS = st.sampled_from([True, False, None])
 
 
@@ -313,34 +319,109 @@ class Texts(unittest.TestCase):
             both.prune("s > ''")
 
 
+class OfClickHouse(unittest.TestCase):
+    """Conditions that the server answers otherwise where a value is null."""
+
+    COLUMNS = [Column("x", DType.I64, True), Column("y", DType.I64, True), Column("n", DType.I64)]
+    CHUNKS = [{"x": [None], "y": [None], "n": [9]}, {"x": [1], "y": [1], "n": [9]}, {"x": [2], "y": [2], "n": [3]}]
+
+    def pruned(self, condition: str, footers: Footers | None = None) -> tuple[list[Answer], tuple[str, ...]]:
+        with warnings.catch_warnings():
+            warnings.simplefilter("ignore", UnreadWarning)
+            answers = (footers or clickhouse._served(Footers.measure(self.COLUMNS, self.CHUNKS))).prune(condition)
+        return list(answers), answers.unread
+
+    def test_in_is_left_unread(self) -> None:
+        for test, within in (
+            ("y NOT IN (1, NULL)", ""), ("x NOT IN (1)", ""), ("x in(1)", ""), ("x NOT IN (NULL)", ""), ("3 NOT IN (1, NULL)", ""),
+            ("NOT (x IN (1))", "x IN (1)"), ("(x IN (1)) IS NULL", "x IN (1)"), ("(x IN (1)) IS NOT TRUE", "x IN (1)"),
+        ):
+            self.assertEqual(self.pruned(test), ([Answer.READ] * 3, (within or test,)), test)
+        rest = "n > 5 AND y NOT IN (1, NULL)"
+        self.assertEqual(self.pruned(rest), ([Answer.READ, Answer.READ, Answer.SKIP], ("y NOT IN (1, NULL)",)))
+        many = "'é IN' <> 'in' AND x IN (1) AND lower('é') = 'é' AND n > 5 AND y not in (2, NULL) AND f(\"é\")"
+        self.assertEqual(self.pruned(many), ([Answer.READ, Answer.READ, Answer.SKIP], ("x IN (1)", "lower('é') = 'é'", "y not in (2, NULL)", 'f("é")')))
+
+    def test_nothing_is_read_below_not_and_is_above_or(self) -> None:
+        for condition in ("NOT (x = 1 OR y = 1)", "(x = 1 OR y = 1) IS NULL", "n > 5 AND NOT (x = 1)", "NOT (x = 1 AND y = 1)", "(x = 1 AND y = 1) ISNULL"):
+            self.assertEqual(self.pruned(condition), ([Answer.READ] * 3, (condition,)))
+
+    def test_other_conditions_are_read(self) -> None:
+        plain = Footers.measure(self.COLUMNS, self.CHUNKS)
+        for condition in ("x = 1", "x IS NOT NULL AND n > 5", "x = 1 OR y = 2", "NOT (x = 1)", "x <> 1", "(x = 1) IS NULL", "NOT x IS NULL", "'in' = 'NOT (' AND n > 5"):
+            self.assertEqual(self.pruned(condition), self.pruned(condition, plain), condition)
+            self.assertEqual(self.pruned(condition)[1], ())
+
+    def test_refusals_have_their_characters(self) -> None:
+        with self.assertRaises(SqlError) as told:
+            self.pruned("x IN (1) AND n IN ('a')")
+        self.assertEqual((told.exception.start, told.exception.end), (13, 23))
+
+    def test_pieces_of_such_footers_are_such(self) -> None:
+        served = clickhouse._served(Footers.measure(self.COLUMNS, self.CHUNKS))
+        pieces = [served.slice(0, 2), served.take(range(0, 2)), served.only(PRUNING), served.merged(), served.slice(0, 1).merge(served.slice(1, 2)), *served.shards(2)]
+        for it in [*pieces, clickhouse.ServedFooters.joined(list(served.shards(1)))]:
+            self.assertEqual(set(self.pruned("x NOT IN (1)", it)[0]), {Answer.READ})
+
+
+def aware(moment: datetime.datetime) -> datetime.datetime:
+    return moment.replace(tzinfo=datetime.timezone.utc)
+
+
 class LogicalTypes(unittest.TestCase):
     """Columns of logical types are never compared by the numbers and bytes that they are kept as."""
 
     def test_each_is_left_unread(self) -> None:
         made = {
-            Date(): (["1970-01-02"], "1"), Timestamp("s"): ([datetime.datetime(1970, 1, 1, 0, 0, 1)], "1"), Decimal(9, 2): (["0.01"], "'1'"),
-            Enum(): (["a"], "'a'"), Uuid(): (["00000000-0000-0000-0000-000000000000"], "X'00000000000000000000000000000000'"),
+            Decimal(9, 2): (["0.01"], "'1'"), Enum(): (["a"], "'a'"), Float64(): ([1.0], "1"),
+            Uuid(): (["00000000-0000-0000-0000-000000000000"], "X'00000000000000000000000000000000'"),
         }
         for kind, (values, stored) in made.items():
             footers = Footers.measure([Column("c", kind), Column("n", DType.I64)], [{"c": values, "n": [1]}])
-            for condition in (f"c = {stored}", f"c < {stored}", f"NOT c <> {stored}", f"c IN ({stored})", "c = c"):
+            for condition in (f"c = {stored}", f"c < {stored}", f"NOT c <> {stored}", f"c IN ({stored})"):
                 with self.assertWarns(UnreadWarning):
                     self.assertEqual(list(footers.prune(condition)), [Answer.READ], f"{kind}: {condition}")
                 with self.assertWarns(UnreadWarning):
                     self.assertEqual(list(footers.prune(f"n > 3 AND {condition}")), [Answer.SKIP], f"{kind}: {condition}")
 
+    def test_values_of_another_type_are_refused(self) -> None:
+        kinds = {"day": Date(), "at": Timestamp("us"), "p": Decimal(9, 2), "t": Time("s"), "z": Timestamp("us", "UTC")}
+        footers = Footers([Column(name, kind) for name, kind in kinds.items()], [3])
+        refused = ["day = 1", "1 <> day", "day IN (DATE '1970-01-01', 2)", "day BETWEEN 1 AND 2", "at > 1.5", "t < 1", "z = 0", "at = TIME '00:00:00'",
+                   "p > DATE '1970-01-01'", "p LIKE '1'", "day LIKE '1%'", "day = TRUE", "day = X'00'"]
+        for test in refused:
+            with self.assertRaisesRegex(SqlError, "the types of .* don't fit") as told:
+                footers.prune(f"1 = 1 AND {test} OR 1 = 1")
+            self.assertEqual((told.exception.start, told.exception.end), (10, 10 + len(test)), test)
+
     def test_literals_of_another_writing_are_left_unread(self) -> None:
         kinds = {"day": Date(), "at": Timestamp("us"), "p": Decimal(9, 2), "z": Timestamp("us", "UTC"), "f": Float64()}
         footers = Footers([Column(name, kind) for name, kind in kinds.items()], [3])
         unread = [
-            "day = '1970-01-02 00:00'", "day = DATE '1970-01-02 00:00'", "day = DATE '1970-02-30'", "day = DATE '70-01-02'", "day > at", "day = 1", "day + 1 = DATE '1970-01-02'",
-            "at = 1", "at = TIMESTAMP '1970-01-01 00:00:00.0000001'", "at = TIMESTAMP '1970-01-01 00:00+01'", "at = TIME '00:00'", "z = TIMESTAMP '1970-01-01 00:00'",
-            "p = '1.5'", "p = 1e2", "p = 1 + 1", "p LIKE '1'", "f = 1.5", "f IN (1, 2)", "day IN (DATE '1970-01-01', NULL)", "day BETWEEN DATE '1970-01-01' AND at",
+            "day = '1970-01-02 00:00'", "day = DATE '1970-01-02 00:00'", "day = DATE '1970-02-30'", "day = DATE '70-01-02'", "day > at", "day + 1 = DATE '1970-01-02'",
+            "at = TIMESTAMP '1970-01-01 00:00:00.0000000001'", "at = TIMESTAMP '1970-01-01 00:00:00+01'", "at = TIMESTAMPTZ '1970-01-01 00:00:00+01'", "at < z",
+            "z = TIMESTAMP '1970-01-01 00:00:00'", "z = '1970-01-01 00:00:00'", "p = '1.5'", "p = 1 + 1", "f = 1.5", "f IN (1, 2)", "day BETWEEN DATE '1970-01-01' AND at",
         ]
         for condition in unread:
             with self.assertWarns(UnreadWarning):
                 answers = footers.prune(f"1 = 1 AND {condition}")
             self.assertEqual(answers.unread, (condition,))
+
+    def test_words_of_calls_are_no_columns(self) -> None:
+        kinds = {Date(): ("1999-01-01", "DATE '2020-01-01'"), Timestamp("us"): ("1999-01-01", "TIMESTAMP '2020-01-01'"), Decimal(9, 2): ("1.50", "7")}
+        words = ["current_date", "current_timestamp", "localtimestamp", "current_time", "localtime", "current_user", "session_user", "user", "current_role",
+                 "current_catalog", "current_schema", "CURRENT_DATE", "LocalTimestamp"]
+        for (kind, (value, literal)), word in itertools.product(kinds.items(), words):
+            footers = Footers.measure([Column(word, kind, True), Column("n", DType.I64)], [{word: [value], "n": [1]}])
+            for test in (f"{word} >= {literal}", f"{literal} <= {word}", f"{word} IN ({literal})", f"{word} BETWEEN {literal} AND {literal}", f"{word} IS NULL"):
+                quoted = test.replace(word, f'"{word}"')
+                with self.subTest(test, kind=kind.word), self.assertWarns(UnreadWarning):
+                    answers = footers.prune(f"n = 1 AND {test}")
+                self.assertEqual((list(answers), answers.unread), ([Answer.READ], (test,)))
+                self.assertEqual(list(footers.prune(f"n = 1 AND {quoted}")), [Answer.SKIP], quoted)
+            with self.assertWarns(UnreadWarning):
+                answers = footers.prune(f'"{word}" >= {literal} AND {word} >= {literal}')
+            self.assertEqual((list(answers), answers.unread), ([Answer.SKIP], (f"{word} >= {literal}",)))
 
     @settings(max_examples=1500, deadline=None, database=None)
     @given(st.data())
@@ -350,8 +431,10 @@ class LogicalTypes(unittest.TestCase):
             st.datetimes(datetime.datetime(1969, 12, 31, 23, 59, 57), datetime.datetime(1970, 1, 1, 0, 0, 3)).map(lambda it: it.replace(microsecond=it.microsecond // 500000 * 500000)),
             st.decimals(-3, 3, places=1),
         )
-        columns = [Column("day", Date(), True), Column("at", Timestamp("s"), True), Column("p", Decimal(9, 0), True), Column("n", DType.I64, True)]
-        values = {"day": day, "at": instant.map(lambda it: it.replace(microsecond=0)), "p": st.integers(-3, 3), "n": NUMBERS}
+        columns = [Column("day", Date(), True), Column("at", Timestamp("s"), True), Column("p", Decimal(9, 0), True), Column("n", DType.I64, True),
+                   Column("z", Timestamp("s", "UTC"), True), Column("t", Time("s"), True)]
+        seconds = instant.map(lambda it: it.replace(microsecond=0))
+        values = {"day": day, "at": seconds, "p": st.integers(-3, 3), "n": NUMBERS, "z": seconds.map(aware), "t": seconds.map(datetime.datetime.time)}
         rows = data.draw(st.lists(st.fixed_dictionaries({name: it | st.none() for name, it in values.items()}), min_size=1, max_size=3))
         footers = Footers.measure(columns, [{column.name: [row[column.name] for row in rows] for column in columns}])
 
@@ -362,11 +445,17 @@ class LogicalTypes(unittest.TestCase):
             if name == "at":
                 moment = data.draw(instant)
                 return moment, data.draw(st.sampled_from([f"TIMESTAMP '{moment}'", f"'{moment.isoformat()}'"]))
+            if name == "z":
+                moment = data.draw(instant.map(aware))
+                return moment, data.draw(st.sampled_from([f"TIMESTAMPTZ '{moment}'", f"'{moment.astimezone(datetime.timezone(datetime.timedelta(hours=2)))}'"]))
+            if name == "t":
+                clock = data.draw(instant).time()
+                return clock, data.draw(st.sampled_from([f"TIME '{clock}'", f"'{clock}'"]))
             number = data.draw(price)
             return number, f"{number:f}"
 
         def leaf() -> Condition:
-            name = data.draw(st.sampled_from(["day", "at", "p"]))
+            name = data.draw(st.sampled_from(["day", "at", "p", "z", "t"]))
             (a, spelled), (b, other) = literal(name), literal(name)
             sign, compare = data.draw(st.sampled_from(COMPARISONS))
             forms: list[tuple[str, Callable[[Any], bool]]] = [

@@ -369,13 +369,13 @@ class Decimals(unittest.TestCase):
             self.assertEqual(made.text([d]), text, made)
 
     def test_refused(self) -> None:
-        for literal in (1.005, float("nan"), True, "1,5", "abc", "", "1e9999999", "٣", decimal.Decimal("NaN"), b"1", numpy.float32(1), 1j):
+        for literal in (1.005, float("nan"), True, "1,5", "abc", "", "1e9999999", "٣", decimal.Decimal("NaN"), decimal.Decimal("sNaN"), b"1", numpy.float32(1), 1j):
             with self.assertRaisesRegex(PredicateError, r"column c: .* is no decimal\(9, 2\); expected a decimal.Decimal or a whole number"):
                 lowered(col("c") == literal, Decimal(9, 2))
         for fields in ((0, 0), (19, 0), (5, 6), (5, -1), ("5", 0), (5.0, 1)):
             with self.assertRaises(ValueError):
                 Decimal(*fields)
-        self.assertEqual([Decimal(3, 1).stored(it) for it in ("99.9", "100", "1.05", 99)], [999, None, None, 990])
+        self.assertEqual([Decimal(3, 1).stored(it) for it in ("99.9", "100", "1.05", 99, decimal.Decimal("sNaN"))], [999, None, None, 990, None])
 
     def test_every_pair_of_a_small_type(self) -> None:
         kind = Decimal(2, 1)

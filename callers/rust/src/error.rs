@@ -2,6 +2,7 @@
 //! Why a call was refused.
 use crate::column::Kind;
 use crate::literal::Literal;
+use crate::logical::Logical;
 use crate::raw::status;
 use crate::sql::SqlError;
 use crate::stat::Stat;
@@ -81,6 +82,10 @@ pub enum Error {
     BadType { column: String, kind: Kind, expected: Kind },
     /// A constant isn't of the kind that it names.
     BadLiteral { column: String, literal: Literal },
+    /// A column of a logical type is compared as it can't be: `found` says how, in words. A plain number says nothing of a
+    /// type's unit, columns of two types aren't numbers of one unit, and an enumeration has no order.
+    /// [`TypedColumn`](crate::TypedColumn) has the comparisons of a type.
+    BadLogical { column: String, logical: Logical, found: String },
     /// The library takes the predicate for no expression over the columns that it names.
     BadPredicate,
     /// The predicate isn't of type bool.
@@ -153,6 +158,9 @@ impl fmt::Display for Error {
             }
             Error::BadLiteral { column, literal } => {
                 write!(f, "column {column}: {literal} is no value of {}", literal.kind())
+            }
+            Error::BadLogical { column, logical, found } => {
+                write!(f, "column {column}: it is of type {logical}, and the predicate compares it {found}")
             }
             Error::BadPredicate => write!(f, "the predicate is no expression over the columns that it names"),
             Error::NotAPredicate => write!(f, "the predicate isn't of type bool"),

@@ -129,7 +129,7 @@ pub fn run(text: &[u8]) -> Reply {
     }
 }
 
-/// Returns the version of the library that this program is linked with, as `0.2.0`.
+/// Returns the version of the library that this program is linked with, as `0.3.0`.
 #[must_use]
 pub fn version() -> String {
     // SAFETY: the call takes nothing.

@@ -1,6 +1,7 @@
 // SPDX-License-Identifier: Apache-2.0
 //! Logical types: what a column's values mean, over the kinds of values that the library knows.
 use crate::column::{DType, Kind};
+use crate::literal::Literal;
 use crate::stat::Stat;
 use crate::time::Unit;
 use std::fmt;
@@ -49,6 +50,23 @@ impl Logical {
         DType { kind: self.kind(), nullable }
     }
 
+    // The kind, the unit, the digits and those behind the point by which the library knows the type in SQL, if it does.
+    pub(crate) fn field(&self) -> Option<[u8; 4]> {
+        match self {
+            Logical::Date => Some([12, 0, 0, 0]),
+            Logical::Time(unit) => Some([13, unit.number(), 0, 0]),
+            Logical::Timestamp(unit, None) => Some([14, unit.number(), 0, 0]),
+            Logical::Timestamp(unit, Some(_)) => Some([15, unit.number(), 0, 0]),
+            Logical::Decimal { precision, scale } => Some([16, 0, *precision, *scale]),
+            Logical::Float32
+            | Logical::Float64
+            | Logical::Uuid
+            | Logical::FixedBinary(_)
+            | Logical::Enum
+            | Logical::Unmapped(_) => None,
+        }
+    }
+
     // Whether a column of the type has a statistic. Only decimals have a sum of their own.
     pub(crate) fn has(&self, stat: Stat) -> bool {
         match self {
@@ -56,6 +74,27 @@ impl Logical {
             Logical::Decimal { .. } => true,
             _ => stat != Stat::Sum,
         }
+    }
+
+    // Whether a plain value is one of the type by itself: 16 bytes of a UUID, bytes of a column of one length, a text of an
+    // enumeration. A number is none, as it says nothing of its unit.
+    pub(crate) fn takes(&self, literal: &Literal) -> bool {
+        match (self, literal) {
+            (Logical::Uuid, Literal::Binary(bytes)) => bytes.len() == 16,
+            (Logical::FixedBinary(_), Literal::Binary(_)) | (Logical::Enum, Literal::Utf8(_)) => true,
+            _ => false,
+        }
+    }
+
+    // Whether two columns of the type may be compared as they stand: not where nothing says what NaN means, and not where
+    // no values are known.
+    pub(crate) fn compares_as_it_stands(&self) -> bool {
+        !matches!(self, Logical::Float32 | Logical::Float64 | Logical::Unmapped(_))
+    }
+
+    // Whether the order of the numbers, texts or bytes is that of the values.
+    pub(crate) fn has_order(&self) -> bool {
+        !matches!(self, Logical::Enum | Logical::Unmapped(_))
     }
 
     // Whether values of both types are mapped alike: a zone's name and a number of digits have no part in it.

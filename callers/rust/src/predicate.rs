@@ -18,9 +18,23 @@ use std::fmt;
 /// [`Error::TooDeep`](crate::Error::TooDeep) tells.
 #[derive(Clone, Debug, PartialEq, Eq)]
 pub struct Predicate {
-    nodes: VecDeque<Node>,
+    nodes: VecDeque<Placed>,
     /// The columns that are taken for ones of logical types, which a map's own may not contradict.
     types: Vec<(String, Logical)>,
+}
+
+/// A node in its place.
+#[derive(Clone, Debug, PartialEq, Eq)]
+struct Placed {
+    node: Node,
+    /// Whether its constants are numbers of the logical type that its column is taken for.
+    typed: bool,
+}
+
+impl From<Node> for Placed {
+    fn from(node: Node) -> Self {
+        Placed { node, typed: false }
+    }
 }
 
 /// One condition or connective of a predicate. The operands of a connective stand right behind it.
@@ -224,12 +238,12 @@ impl ColumnName {
     #[must_use]
     pub fn is_in<T: Into<Literal>>(self, values: impl IntoIterator<Item = T>) -> Predicate {
         let equal = |value: T| Node::Compare(Operator::Eq, self.0.clone(), Operand::Literal(value.into()));
-        let mut nodes: VecDeque<Node> = values.into_iter().map(equal).collect();
+        let mut nodes: VecDeque<Placed> = values.into_iter().map(|value| equal(value).into()).collect();
         if nodes.is_empty() {
             return Predicate::constant(false);
         }
         for _ in 1..nodes.len() {
-            nodes.push_front(Node::Or);
+            nodes.push_front(Node::Or.into());
         }
         Predicate { nodes, types: Vec::new() }
     }
@@ -278,11 +292,12 @@ impl ColumnName {
 impl Predicate {
     // Makes the predicate of one condition.
     pub(crate) fn leaf(node: Node) -> Predicate {
-        Predicate { nodes: VecDeque::from([node]), types: Vec::new() }
+        Predicate { nodes: VecDeque::from([node.into()]), types: Vec::new() }
     }
 
-    // Says that a column is taken for one of a logical type.
+    // Says that a column is taken for one of a logical type, by all conditions of the predicate.
     pub(crate) fn of_type(mut self, column: &str, kind: &Logical) -> Predicate {
+        self.nodes.iter_mut().for_each(|it| it.typed = true);
         if self.types.iter().all(|(name, it)| (name.as_str(), it) != (column, kind)) {
             self.types.push((column.to_owned(), kind.clone()));
         }
@@ -323,7 +338,12 @@ impl Predicate {
 
     /// Returns the conditions and connectives in prefix order: each connective stands before its operands.
     pub fn nodes(&self) -> impl DoubleEndedIterator<Item = &Node> + ExactSizeIterator {
-        self.nodes.iter()
+        self.nodes.iter().map(|it| &it.node)
+    }
+
+    // The conditions whose constants are plain values, and which compare columns as they are.
+    pub(crate) fn untyped(&self) -> impl Iterator<Item = &Node> {
+        self.nodes.iter().filter(|it| !it.typed).map(|it| &it.node)
     }
 
     // The shorter side is moved to the longer one, so that a chain grows in time of its length from either end.
@@ -345,13 +365,13 @@ impl Predicate {
             left.append(&mut right);
             left
         };
-        nodes.push_front(connective);
+        nodes.push_front(connective.into());
         Predicate { nodes, types }
     }
 
     // Writes the text in the language of a `where` line, with each column's name written by `name`.
     pub(crate) fn write(&self, out: &mut dyn fmt::Write, name: &ColumnWriter<'_>) -> fmt::Result {
-        for (place, node) in self.nodes.iter().enumerate() {
+        for (place, node) in self.nodes().enumerate() {
             if place > 0 {
                 out.write_char(' ')?;
             }
@@ -371,12 +391,13 @@ impl Predicate {
     ) -> fmt::Result {
         // Of each operand that is to come: whether it stands under an odd number of NOTs.
         let (mut turned, mut count, mut place) = (vec![false], 0, 0);
-        while let (Some(node), Some(here)) = (self.nodes.get(place), turned.pop()) {
+        let node_at = |place: usize| self.nodes.get(place).map(|it| &it.node);
+        while let (Some(node), Some(here)) = (node_at(place), turned.pop()) {
             if place > 0 {
                 out.write_char(' ')?;
             }
             place += 1;
-            match (node, self.nodes.get(place)) {
+            match (node, node_at(place)) {
                 (Node::Never(column), _) => write_of_values(out, name, column, here, false)?,
                 (Node::Always(column), _) => write_of_values(out, name, column, here, true)?,
                 (Node::Not, Some(Node::Never(column))) => {
@@ -425,7 +446,7 @@ impl std::ops::Not for Predicate {
 
     /// Turns the predicate round; null stays null.
     fn not(mut self) -> Predicate {
-        self.nodes.push_front(Node::Not);
+        self.nodes.push_front(Node::Not.into());
         self
     }
 }

@@ -3,14 +3,14 @@
 use crate::column::Kind;
 use crate::column_stats::{ColumnStats, Entry};
 use crate::error::{Error, Place};
-use crate::literal::{Literal, Operand};
+use crate::literal::{Literal, Operand, Operator};
+use crate::logical::Logical;
 use crate::predicate::{Node, Predicate};
 use crate::raw::{self, status, Fault};
 use crate::stat::Stat;
 use crate::zone_map::{Answer, ZoneMap};
 use std::collections::HashMap;
 use std::fmt;
-use std::marker::PhantomData;
 
 /// The statistics that pruning reads.
 const READ: [Stat; 3] = [Stat::Min, Stat::Max, Stat::NullCount];
@@ -43,13 +43,7 @@ impl<'a> Handed<'a> {
     pub(crate) fn scope<'n>(&self, names: impl Iterator<Item = &'n str>) -> Vec<raw::Field<'n>> {
         let types = self.columns().map(|column| (column.dtype().kind, column.dtype().nullable));
         let unnamed = std::iter::repeat((Kind::Bool, true));
-        let field = |(name, (kind, nullable)): (&'n str, (Kind, bool))| raw::Field {
-            name: name.as_ptr(),
-            name_len: name.len(),
-            kind: kind as u8,
-            nullable: u8::from(nullable),
-            lent: PhantomData,
-        };
+        let field = |(name, (kind, nullable))| raw::Field::new(name, [kind as u8, 0, 0, 0], nullable);
         names.zip(types.chain(unnamed)).map(field).collect()
     }
 
@@ -80,7 +74,7 @@ pub(crate) struct Asked<'a> {
 }
 
 impl<'a> Asked<'a> {
-    // Refuses a column that the map hasn't, and a column that is taken for one of another type.
+    // Refuses a column that the map hasn't, and one that is taken for one of another type, or for plain values.
     pub(crate) fn of(map: &'a ZoneMap, predicate: &Predicate) -> Result<Self, Error> {
         let mut slots: HashMap<&str, usize> = HashMap::new();
         let mut places = Vec::new();
@@ -94,6 +88,9 @@ impl<'a> Asked<'a> {
                 places.push(place.ok_or_else(|| Error::UnknownColumn(name.to_owned()))?);
             }
             fits(node, |name| map.columns()[places[slots[name]]].dtype().kind)?;
+        }
+        for node in predicate.untyped() {
+            is_plain(node, |name| map.logical(places[slots[name]]))?;
         }
         for (name, kind) in predicate.types() {
             let told = slots.get(name.as_str()).and_then(|slot| map.logical(places[*slot]));
@@ -208,4 +205,40 @@ fn fits<'n>(node: &'n Node, kind_of: impl Fn(&'n str) -> Kind) -> Result<(), Err
         }
         Node::Like { column, .. } => taken_for(column, Kind::Utf8),
     }
+}
+
+// Refuses a condition that compares a column of a logical type with a plain value that is none of the type, with a column
+// of another type, or by an order that the type hasn't.
+fn is_plain<'n, 'm>(node: &'n Node, logical: impl Fn(&'n str) -> Option<&'m Logical>) -> Result<(), Error> {
+    let compared_with = |column: &'n String, operator: Operator, literal: &Literal| match logical(column) {
+        None => Ok(()),
+        Some(kind) if !kind.takes(literal) => Err(misfit(column, kind, format!("with the plain {literal}"))),
+        Some(kind) => is_ordered(column, kind, operator),
+    };
+    match node {
+        Node::Compare(operator, column, Operand::Literal(literal)) => compared_with(column, *operator, literal),
+        Node::Between { column, low, high, .. } => {
+            compared_with(column, Operator::Ge, low).and_then(|()| compared_with(column, Operator::Le, high))
+        }
+        Node::Compare(operator, column, Operand::Column(other)) => match (logical(column), logical(other)) {
+            (None, None) => Ok(()),
+            (Some(kind), Some(right)) if kind.is_mapped_as(right) && kind.compares_as_it_stands() => {
+                is_ordered(column, kind, *operator)
+            }
+            (Some(kind), _) => Err(misfit(column, kind, format!("with column {other}"))),
+            (None, Some(kind)) => Err(misfit(other, kind, format!("with column {column}"))),
+        },
+        _ => Ok(()),
+    }
+}
+
+fn is_ordered(column: &str, kind: &Logical, operator: Operator) -> Result<(), Error> {
+    if kind.has_order() || matches!(operator, Operator::Eq | Operator::Ne) {
+        return Ok(());
+    }
+    Err(misfit(column, kind, format!("by {operator}, and it has no order")))
+}
+
+fn misfit(column: &str, kind: &Logical, found: String) -> Error {
+    Error::BadLogical { column: column.to_owned(), logical: kind.clone(), found }
 }

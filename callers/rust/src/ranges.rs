@@ -37,7 +37,8 @@ impl Ranges {
 
     /// The numbers from `low` to `high` of which a comparison with a literal is true.
     pub(crate) fn of_comparison(operator: Operator, spot: Spot, low: i128, high: i128) -> Ranges {
-        let (number, exact) = (spot.number, spot.exact);
+        // Beyond the ends of the type all spots are alike.
+        let (number, exact) = (spot.number.clamp(low - 1, high + 1), spot.exact);
         let (below, above) = (if exact { number - 1 } else { number }, number + 1);
         let cut = |first: i128, last: i128| Ranges::of(first.max(low), last.min(high));
         match operator {

@@ -121,7 +121,18 @@ pub struct Field<'a> {
     pub name_len: usize,
     pub kind: u8,
     pub nullable: u8,
+    pub unit: u8,
+    pub precision: u8,
+    pub scale: u8,
     pub lent: PhantomData<&'a str>,
+}
+
+impl<'a> Field<'a> {
+    // A column by its name, and its kind, unit, digits and those behind the point.
+    pub fn new(name: &'a str, [kind, unit, precision, scale]: [u8; 4], nullable: bool) -> Self {
+        let (nullable, lent) = (u8::from(nullable), PhantomData);
+        Field { name: name.as_ptr(), name_len: name.len(), kind, nullable, unit, precision, scale, lent }
+    }
 }
 
 unsafe extern "C" {

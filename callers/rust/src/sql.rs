@@ -1,5 +1,6 @@
 // SPDX-License-Identifier: Apache-2.0
 //! Pruning by conditions in SQL.
+use crate::column::Kind;
 use crate::error::Error;
 use crate::pruning::{answer, Handed};
 use crate::raw::{self, status, Fault, Span};
@@ -180,18 +181,28 @@ impl Call<'_> {
     }
 }
 
-// Prunes by a text over the columns whose values are those of their kinds, and whose names the library takes: a test of
-// another column isn't read.
+// A column of a map as it crosses to the library, if the library knows its type and takes its name.
+fn field(map: &ZoneMap, place: usize) -> Option<raw::Field<'_>> {
+    let (name, dtype) = (&map.names()[place], map.columns()[place].dtype());
+    let numbers = match map.logical(place) {
+        Some(logical) => logical.field()?,
+        None => [dtype.kind as u8, 0, 0, 0],
+    };
+    is_name(name).then(|| raw::Field::new(name, numbers, dtype.nullable))
+}
+
+// Prunes by a text over the columns that the library knows: a test of another column isn't read.
 pub(crate) fn prune_sql(map: &ZoneMap, text: &str, names: Names) -> Result<SqlAnswers, Error> {
-    let is_plain = |place: &usize| map.logical(*place).is_none() && is_name(&map.names()[*place]);
-    let places: Vec<usize> = (0..map.names().len()).filter(is_plain).collect();
+    let known = |place| Some((place, field(map, place)?));
+    let (places, scope): (Vec<usize>, Vec<raw::Field<'_>>) = (0..map.names().len()).filter_map(known).unzip();
     // The library takes no table without columns.
     let spare = places.is_empty().then(|| unnamed(text));
-    let handed = Handed::of(map, places.clone());
+    let spare_field = spare.as_deref().map(|name| raw::Field::new(name, [Kind::Bool as u8, 0, 0, 0], true));
+    let handed = Handed::of(map, places);
     let counts = handed.null_counts();
     let entries = handed.entries(&counts);
     let call = Call {
-        scope: handed.scope(places.iter().map(|place| map.names()[*place].as_str()).chain(spare.as_deref())),
+        scope: scope.into_iter().chain(spare_field).collect(),
         rows: handed.rows(),
         stats: entries.iter().map(|(slot, entry)| entry.raw(*slot)).collect(),
         text,

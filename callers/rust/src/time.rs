@@ -25,6 +25,11 @@ impl Unit {
         ["s", "ms", "us", "ns"][self as usize]
     }
 
+    // The library's number of the unit.
+    pub(crate) fn number(self) -> u8 {
+        self as u8 + 1
+    }
+
     // How many nanoseconds it has.
     pub(crate) fn nanos(self) -> i128 {
         [NANOS, 1_000_000, 1000, 1][self as usize]

@@ -195,7 +195,9 @@ impl ZoneMap {
     /// no nulls.
     ///
     /// # Errors
-    /// `UnknownColumn`, `BadType` and `BadLiteral` with the column; `TooDeep` and `NoMemory`.
+    /// `UnknownColumn`, `BadType` and `BadLiteral` with the column; `BadLogical` with it where a plain value or a column of
+    /// another type stands against a column with a [`Logical`] type, or an order against one without; `TooDeep` and
+    /// `NoMemory`.
     pub fn prune(&self, predicate: &Predicate) -> Result<Vec<Answer>, Error> {
         Asked::of(self, predicate)?.answers()
     }
@@ -206,8 +208,9 @@ impl ZoneMap {
     /// A test that isn't read may mean anything, and the answer tells its place. Whatever those tests mean: of whatever
     /// rows the statistics are true, no row of a skipped zone satisfies the condition, and each row of a whole zone does.
     ///
-    /// A test of a column that the map hasn't, that has a [`Logical`] type, or whose name isn't made of ASCII letters,
-    /// digits and `_` isn't read: dates, timestamps and decimals are never compared by the numbers that they stand as.
+    /// Dates, times, timestamps and decimals compare by what their numbers stand for, with literals of their [`Logical`]
+    /// type. A test of a column that the map hasn't, that has another logical type, or whose name isn't made of ASCII
+    /// letters, digits and `_` isn't read.
     ///
     /// # Errors
     /// `Sql` with the bytes of the text; `NoMemory`.

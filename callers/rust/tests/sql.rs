@@ -98,15 +98,53 @@ fn names_of_several_parts_are_read_where_asked_for() {
 }
 
 #[test]
-fn columns_of_logical_types_and_of_other_names_are_not_read() {
-    let day = Logical::Timestamp(Unit::Second, None);
-    let scope = [("at", day.dtype(false)), ("the day", DType { kind: Kind::I64, nullable: false })];
-    let mut map = ZoneMap::new(&scope, &WANTED).unwrap().with_logical("at", day).unwrap();
+fn columns_of_floats_and_of_other_names_are_not_read() {
+    let scope = [("x", Logical::Float64.dtype(false)), ("the day", DType { kind: Kind::I64, nullable: false })];
+    let mut map = ZoneMap::new(&scope, &WANTED).unwrap().with_logical("x", Logical::Float64).unwrap();
     map.push(&[Column::numbers(&[3_i64]), Column::numbers(&[3_i64])]).unwrap();
-    let text = "at > 9 OR \"the day\" > 9 OR at IS NULL OR _0 > 3";
+    let text = "x > 9 OR \"the day\" > 9 OR x IS NULL OR _0 > 3";
     let found = map.prune_sql(text, Names::Plain).unwrap();
-    assert_eq!(found, SqlAnswers { zones: vec![Answer::Read], unread: vec![0..6, 10..23, 27..37, 41..47] });
+    assert_eq!(found, SqlAnswers { zones: vec![Answer::Read], unread: vec![0..5, 9..22, 26..35, 39..45] });
     assert_eq!(map.prune_sql("1 = 2", Names::Plain).unwrap().zones, [Answer::Skip]);
+}
+
+// A map of two zones of a column of a logical type, with the numbers 100 and 200.
+fn two_zones(logical: Logical) -> ZoneMap {
+    let mut map =
+        ZoneMap::new(&[("c", logical.dtype(false))], &WANTED).unwrap().with_logical("c", logical.clone()).unwrap();
+    for number in [100, 200] {
+        match logical.kind() {
+            Kind::I32 => map.push(&[Column::numbers(&[number])]).unwrap(),
+            _ => map.push(&[Column::numbers(&[i64::from(number)])]).unwrap(),
+        }
+    }
+    map
+}
+
+#[test]
+fn columns_compare_by_what_their_numbers_stand_for() {
+    let named = Some("Europe/Oslo".to_owned());
+    let cases = [
+        (Logical::Date, "c >= DATE '1970-06-01'"),
+        (Logical::Date, "c > '1970-04-11'"),
+        (Logical::Time(Unit::Second), "c > TIME '00:01:40'"),
+        (Logical::Time(Unit::Nano), "c > TIME '00:00:00.000000100'"),
+        (Logical::Timestamp(Unit::Milli, None), "c > TIMESTAMP '1970-01-01 00:00:00.1'"),
+        (Logical::Timestamp(Unit::Second, None), "c > '1970-01-01 00:01:40'"),
+        (Logical::Timestamp(Unit::Micro, named), "c > TIMESTAMPTZ '1970-01-01 02:00:00.0001+02'"),
+        (Logical::Decimal { precision: 9, scale: 2 }, "c > 1.005"),
+        (Logical::Decimal { precision: 18, scale: 0 }, "c > 1.5e2"),
+    ];
+    for (logical, text) in cases {
+        let found = two_zones(logical).prune_sql(text, Names::Plain).unwrap();
+        assert_eq!(found, SqlAnswers { zones: vec![Answer::Skip, Answer::Whole], unread: vec![] }, "{text}");
+    }
+    let sql = |error| match error {
+        Error::Sql(fault) => fault,
+        other => panic!("{other}"),
+    };
+    let wanted = SqlError { fault: SqlFault::Misfit, bytes: 9..16 };
+    assert_eq!(sql(two_zones(Logical::Date).prune_sql("1 = 1 OR c > 100", Names::Plain).unwrap_err()), wanted);
 }
 
 #[test]

@@ -186,6 +186,20 @@ fn literals_outside_of_a_type_fold() {
 }
 
 #[test]
+fn instants_at_the_ends_of_128_bits_compare_exactly() {
+    for (nanos, above) in [(i128::MAX, true), (i128::MAX - 1, true), (i128::MIN, false), (i128::MIN + 1, false)] {
+        for (unit, operator) in UNITS.iter().flat_map(|unit| OPERATORS.map(|operator| (*unit, operator))) {
+            let made = col("c").instant(unit).compare(operator, Instant::from_nanos(nanos));
+            for number in [i64::MIN, 0, i64::MAX] {
+                // Every number of 64 bits lies on one side of it.
+                let wanted = compares(operator, &0, &(if above { 1 } else { -1 }));
+                assert_eq!(of(&made, Some(number)), Some(wanted), "{made}");
+            }
+        }
+    }
+}
+
+#[test]
 fn every_pair_of_a_small_decimal_type() {
     let column = col("c").decimal(1);
     for literal in (-1050..=1050).step_by(5) {
@@ -357,6 +371,144 @@ fn prune_refuses_another_logical_type() {
     assert!(map().with_logical("c", Logical::Uuid).is_err());
     assert!(map().with_logical("c", Logical::Date).is_err());
     assert!(map().with_logical("d", Logical::Date).is_err());
+}
+
+// A map of one zone, of columns of logical types or none, each with a null count alone.
+fn map_of_columns(columns: &[(&str, DType, Option<Logical>)]) -> ZoneMap {
+    let scope: Vec<(&str, DType)> = columns.iter().map(|(name, dtype, _)| (*name, *dtype)).collect();
+    let mut map = ZoneMap::new(&scope, &[Stat::NullCount]).unwrap();
+    map.push_known(3, &vec![vec![Precision::Exact(Value::Unsigned(0))]; columns.len()]).unwrap();
+    let logical = columns.iter().filter_map(|(name, _, kind)| Some((*name, kind.clone()?)));
+    logical.fold(map, |map, (name, kind)| map.with_logical(name, kind).unwrap())
+}
+
+fn refused_of(found: Result<Vec<Answer>, Error>) -> String {
+    match found {
+        Err(Error::BadLogical { column, .. }) => column,
+        other => panic!("{other:?}"),
+    }
+}
+
+#[test]
+fn plain_number_beside_a_logical_column_is_refused() {
+    let decimal = map_of(&Logical::Decimal { precision: 9, scale: 2 }, &[(5000, 6000)]);
+    let float = map_of(&Logical::Float64, &[(Float64::number(1.5), Float64::number(19.0))]);
+    let at = map_of(&Logical::Timestamp(Unit::Micro, None), &[(0, 11)]);
+    for map in [decimal, float, at] {
+        let leaves = [
+            col("c").lt(100_i64),
+            col("c").eq(100_i64),
+            col("c").between(1_i64, 2_i64),
+            col("c").is_in([1_i64]),
+            col("c").is_in([1_i64, 2]),
+            col("c").eq(Literal::Null(Kind::I64)),
+            !col("c").ge(100_i64),
+            col("n").lt(0_i64).and(col("c").lt(100_i64)),
+            col("c").lt(100_i64).or(col("n").lt(0_i64)),
+        ];
+        for wanted in leaves {
+            assert_eq!(refused_of(map.prune(&wanted)), "c", "{wanted}");
+        }
+        assert_eq!(map.prune(&col("c").is_null()), Ok(vec![Answer::Skip]));
+        assert_eq!(map.prune(&col("c").is_not_null()), Ok(vec![Answer::Whole]));
+        assert_eq!(map.prune(&col("n").lt(i64::MIN + 1)), Ok(vec![Answer::Skip]));
+    }
+    let day = map_of_columns(&[("day", DType { kind: Kind::I32, nullable: false }, Some(Logical::Date))]);
+    let words = day.prune(&col("day").lt(7_i32)).unwrap_err().to_string();
+    assert_eq!(words, "column day: it is of type date, and the predicate compares it with the plain lit i32 7");
+}
+
+#[test]
+fn typed_leaf_frees_no_plain_one() {
+    let map = map_of(&Logical::Decimal { precision: 9, scale: 2 }, &[(5000, 6000)]);
+    let typed = || col("c").decimal(2).lt(100_i64);
+    assert_eq!(map.prune(&typed()), Ok(vec![Answer::Whole]));
+    for wanted in
+        [typed().and(col("c").lt(100_i64)), col("c").lt(100_i64).and(typed()), !typed().or(col("c").eq(1_i64))]
+    {
+        assert_eq!(refused_of(map.prune(&wanted)), "c", "{wanted}");
+    }
+}
+
+#[test]
+fn columns_of_two_types_are_refused() {
+    let long = DType { kind: Kind::I64, nullable: false };
+    let map = map_of_columns(&[
+        ("at", long, Some(Logical::Timestamp(Unit::Micro, None))),
+        ("s", long, Some(Logical::Timestamp(Unit::Second, None))),
+        ("d", long, Some(Logical::Decimal { precision: 9, scale: 2 })),
+        ("e", long, Some(Logical::Decimal { precision: 18, scale: 2 })),
+        ("f", long, Some(Logical::Float64)),
+        ("g", long, Some(Logical::Float64)),
+        ("n", long, None),
+    ]);
+    for (left, right, refused) in [
+        ("at", "s", "at"),
+        ("s", "at", "s"),
+        ("d", "f", "d"),
+        ("f", "d", "f"),
+        // Nothing says what NaN means.
+        ("f", "g", "f"),
+        ("n", "d", "d"),
+        ("d", "n", "d"),
+    ] {
+        for operator in OPERATORS {
+            assert_eq!(
+                refused_of(map.prune(&col(left).compare(operator, col(right)))),
+                refused,
+                "{left} {operator} {right}"
+            );
+        }
+    }
+    assert_eq!(map.prune(&col("d").lt(col("e"))), Ok(vec![Answer::Read]));
+    let floats = col("f").float64(Nan::Ieee).compare_column(Operator::Lt, &col("g").float64(Nan::Ieee)).unwrap();
+    assert_eq!(map.prune(&floats), Ok(vec![Answer::Read]));
+}
+
+#[test]
+fn enumeration_has_no_order() {
+    let text = DType { kind: Kind::Utf8, nullable: false };
+    let columns = [("e", text, Some(Logical::Enum)), ("f", text, Some(Logical::Enum)), ("t", text, None)];
+    let map = map_of_columns(&columns);
+    for operator in [Operator::Gt, Operator::Ge, Operator::Lt, Operator::Le] {
+        assert_eq!(refused_of(map.prune(&col("e").compare(operator, "low"))), "e");
+        assert_eq!(refused_of(map.prune(&col("e").compare(operator, col("f")))), "e");
+        assert_eq!(map.prune(&col("t").compare(operator, "low")), Ok(vec![Answer::Read]));
+    }
+    assert_eq!(refused_of(map.prune(&col("e").between("high", "low"))), "e");
+    let answered = [
+        col("e").eq("low"),
+        col("e").ne("low"),
+        col("e").is_in(["a", "b"]),
+        col("e").like("l%"),
+        col("e").eq(col("f")),
+    ];
+    for wanted in answered {
+        assert_eq!(map.prune(&wanted), Ok(vec![Answer::Read]), "{wanted}");
+    }
+}
+
+#[test]
+fn bytes_compare_with_columns_of_bytes() {
+    let bytes = DType { kind: Kind::Binary, nullable: false };
+    let map = map_of_columns(&[
+        ("u", bytes, Some(Logical::Uuid)),
+        ("b", bytes, Some(Logical::FixedBinary(2))),
+        ("j", bytes, Some(Logical::Unmapped("json".to_owned()))),
+    ]);
+    for wanted in [col("u").lt([7_u8; 16]), col("b").ge([7_u8; 3]), col("b").between([1_u8; 2], [2_u8; 2])] {
+        assert_eq!(map.prune(&wanted), Ok(vec![Answer::Read]), "{wanted}");
+    }
+    for (wanted, refused) in [
+        (col("u").lt([7_u8; 15]), "u"),
+        (col("u").between([7_u8; 16], [7_u8; 15]), "u"),
+        (col("u").between([7_u8; 15], [7_u8; 16]), "u"),
+        (col("j").eq([7_u8; 2]), "j"),
+        (col("j").eq(col("j")), "j"),
+        (col("u").eq(col("b")), "u"),
+    ] {
+        assert_eq!(refused_of(map.prune(&wanted)), refused, "{wanted}");
+    }
 }
 
 #[test]

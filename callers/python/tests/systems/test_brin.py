@@ -7,7 +7,7 @@ import random
 import unittest
 import uuid
 
-from foalmorrow import Column, DType, Footers, Precision, Predicate, PredicateError, Stat, brin, col
+from foalmorrow import Answer, Column, DType, Footers, Precision, Predicate, PredicateError, Stat, brin, col
 from tests.systems.servers import postgres, postgres_folder
 
 SEED = int(os.environ.get("FOALMORROW_SEED", "1"))
@@ -171,6 +171,24 @@ class BrinIndexes(unittest.TestCase):
             query("SET datestyle = 'ISO'; SET timezone = 'Asia/Tokyo'")
             with self.assertRaisesRegex(brin.BrinError, "column z: the setting TimeZone is Asia/Tokyo"):
                 brin.read(query, "moments_brin")
+
+    def test_literals_past_the_mapping(self) -> None:
+        self.query("CREATE TABLE late (i int, at timestamp)")
+        self.query("INSERT INTO late SELECT i, CASE WHEN i < 3000 THEN timestamp '2024-01-01' ELSE '294260-01-01' END FROM generate_series(1, 5000) i")
+        self.query("CREATE INDEX late_brin ON late USING brin (at) WITH (pages_per_range = 2)")
+        with brin.session(self.folder, user="postgres") as query:
+            index = brin.read(query, "moments_brin")
+            for predicate in (col("p") > 10**20, ~(col("p") < 10**20), col("p") != 10**20, ~col("p").between(0, 10**20)):
+                condition = predicate.sql(index.footers.columns, brin.POSTGRES)
+                found, wanted = brin.select(query, index, predicate, ["ctid::text"]), query(f"SELECT ctid::text FROM moments WHERE {condition}")
+                self.assertEqual(sorted(found.rows), sorted(wanted), condition)
+                self.assertGreater(len(wanted), 0, condition)
+            late = brin.read(query, "late_brin")
+            for predicate, rows in ((col("at") > "2025-01-01", 2001), (col("at") < "2025-01-01", 2999)):
+                self.assertEqual(len(brin.select(query, late, predicate).rows), rows)
+            kept = {place for place, answer in enumerate(late.footers.prune(col("at") > "+294250-01-01")) if answer == Answer.READ}
+            rows = query("SELECT DISTINCT (ctid::text::point)[0]::int FROM late WHERE at > '294250-01-01'")
+            self.assertTrue({int(page or 0) // 2 for (page,) in rows} <= kept)
 
     def has_nan(self, query: brin.Query, index: brin.Brin, zone: int) -> bool:
         start, end = index.pages_of(zone)

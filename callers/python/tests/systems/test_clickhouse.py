@@ -6,8 +6,9 @@ import random
 import shutil
 import tempfile
 import unittest
+import warnings
 
-from foalmorrow import PRUNING, Answer, FooterError, Footers, Precision, Predicate, PredicateError, Stat, clickhouse, col
+from foalmorrow import PRUNING, Answer, FooterError, Footers, Precision, Predicate, PredicateError, Stat, UnreadWarning, clickhouse, col
 from tests.systems.servers import clickhouse_server
 
 SEED = int(os.environ.get("FOALMORROW_SEED", "1"))
@@ -185,6 +186,27 @@ class ClickHouseTables(unittest.TestCase):
             with_footers, without = with_footers + pruned.read, without + full.read
         print(f"seed {SEED}: 300 predicates on columns without an index, the server reads {without} rows, and {with_footers} with footers")
         self.assertLess(with_footers, without * 0.9)
+
+    def test_texts_with_nulls_beside_the_server(self) -> None:
+        """No part is skipped that has rows which the server finds, and none is whole that has others."""
+        self.query("CREATE TABLE nulls (p Int64, x Nullable(Int32), y Nullable(Int32)) ENGINE = MergeTree PARTITION BY p ORDER BY p SETTINGS index_granularity = 1000")
+        values = [(None, None), (None, 1), (1, None), (1, 1), (1, 2), (2, None), (2, 1)]
+        for place, (x, y) in enumerate(values):
+            self.query(f"INSERT INTO nulls VALUES ({place}, {'NULL' if x is None else x}, {'NULL' if y is None else y})")
+        kept = clickhouse.PartFooters.of(self.query, "default", "nulls", ["x", "y"])
+        kept.refresh(self.query)
+        tests = ["x = 1", "x <> 1", "x IN (1)", "y NOT IN (1, NULL)", "x NOT IN (1)", "x IS NULL", "(x IN (1)) IS NULL", "(x = 1) IS NULL", "x IN (NULL)"]
+        joints = [f"{left} {word} {right}" for word in ("AND", "OR") for left in tests for right in tests]
+        skipped = 0
+        for condition in [*tests, *(f"NOT ({it})" for it in tests), *joints, *(f"NOT ({it})" for it in joints), *(f"({it}) IS NULL" for it in joints)]:
+            with warnings.catch_warnings():
+                warnings.simplefilter("ignore", UnreadWarning)
+                answers = kept.prune(condition)
+            found = set(self.query(f"SELECT DISTINCT _part FROM nulls WHERE {condition} FORMAT TabSeparated").decode().split())
+            for part, answer in zip(kept.parts, answers):
+                self.assertTrue(answer == Answer.READ or (answer == Answer.WHOLE) == (part in found), (condition, part, answer))
+            skipped += len(answers.skipped)
+        self.assertGreater(skipped, 100)
 
     def test_parts_that_come_after_the_footers(self) -> None:
         self.query("CREATE TABLE g (k Int64, a Int64) ENGINE = MergeTree ORDER BY k SETTINGS index_granularity = 1000")

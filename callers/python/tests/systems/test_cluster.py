@@ -1,5 +1,7 @@
 # SPDX-License-Identifier: Apache-2.0
 """A cluster of two workers: a table measured, merged, pruned and read where its partitions lie, also where a worker dies."""
+from __future__ import annotations
+
 import csv
 import datetime
 import decimal
@@ -20,7 +22,7 @@ try:
     import dask
     from distributed import Client, LocalCluster
 
-    from foalmorrow import cluster, dataset
+    from foalmorrow import cluster, dataset, stamps
     from tests.systems.test_dataset import read_rows
 except ImportError:
     dask = None  # type: ignore[assignment]
@@ -82,6 +84,9 @@ class Clusters(unittest.TestCase):
         cls.folder.cleanup()
 
     def setUp(self) -> None:
+        # Partitions that were changed within the last seconds are measured anew.
+        self.addCleanup(setattr, stamps, "SETTLED", stamps.SETTLED)
+        stamps.SETTLED = 0
         self.table_folder = tempfile.TemporaryDirectory()
         for part in range(PARTS):
             write(self.table_folder.name, part, part * ROWS)
@@ -110,6 +115,57 @@ class Clusters(unittest.TestCase):
         again, fresh = cluster.measure(self.client, self.table, cluster.Kept.load(path))
         self.assertEqual(fresh, [self.table.files[3]])
         self.assertEqual(again.footers.at(3)["k", Stat.MIN][1], 90_000)
+
+    def columns_of(self, arrays: dict[str, list[int]]) -> cluster.Table:
+        """A table of one partition, a folder of arrays."""
+        import numpy
+
+        folder = pathlib.Path(self.table_folder.name, "arrays", "0")
+        folder.mkdir(parents=True)
+        for name, values in arrays.items():
+            numpy.save(folder / f"{name}.npy", numpy.array(values, "i8"))
+        return cluster.npy_table(folder.parent, [Column(name, DType.I64) for name in arrays])
+
+    def test_replaced_array_with_its_times_kept(self) -> None:
+        import numpy
+
+        table = self.columns_of({"a": [1, 2, 3], "b": [7, 8, 9]})
+        kept, _ = cluster.measure(self.client, table)
+        file = pathlib.Path(table.files[0], "a.npy")
+        told = file.stat()
+        time.sleep(0.02)
+        numpy.save(file, numpy.array([50, 60, 70]))
+        os.utime(file, ns=(told.st_atime_ns, told.st_mtime_ns))
+        found = cluster.select(self.client, table, kept, col("a") > 40)
+        self.assertEqual((found.files, found.changed), ([table.files[0]], [table.files[0]]))
+        again, fresh = cluster.measure(self.client, table, kept)
+        self.assertEqual((fresh, again.footers.at(0)["a", Stat.MAX][1]), ([table.files[0]], 70))
+
+    def test_swapped_arrays(self) -> None:
+        table = self.columns_of({"a": [1, 2, 3], "b": [7, 8, 9]})
+        kept, _ = cluster.measure(self.client, table)
+        time.sleep(0.02)
+        for source, goal in (("a", "c"), ("b", "a"), ("c", "b")):
+            os.rename(f"{table.files[0]}/{source}.npy", f"{table.files[0]}/{goal}.npy")
+        found = cluster.select(self.client, table, kept, col("a") > 6)
+        self.assertEqual(found.files, [table.files[0]])
+        self.assertEqual(sorted(found.frame().compute()["a"]), [7, 8, 9])
+        again, fresh = cluster.measure(self.client, table, kept)
+        self.assertEqual((fresh, again.footers.at(0)["a", Stat.MIN][1]), ([table.files[0]], 7))
+
+    def test_partition_that_was_just_changed(self) -> None:
+        stamps.SETTLED = 2 * 10**9
+        kept, _ = cluster.measure(self.client, self.table)
+        found = cluster.select(self.client, self.table, kept, col("k") < 0)
+        self.assertEqual((found.files, found.changed), ([*self.table.files], [*self.table.files]))
+        self.assertEqual(cluster.measure(self.client, self.table, kept)[1], [*self.table.files])
+
+    def test_partition_that_changes_while_it_is_measured(self) -> None:
+        def late(_: object) -> None:
+            write(self.table_folder.name, 3, 90_000)
+
+        with self.assertRaisesRegex(cluster.TableError, "part-003.csv was changed while it was measured"):
+            cluster.measure(self.client, self.table, watch=late)
 
     def test_a_worker_dies_in_measure(self) -> None:
         table = cluster.Table(COLUMNS, self.table.files, slow)
@@ -284,12 +340,15 @@ class Clusters(unittest.TestCase):
 
     def test_notes_that_are_none_refused(self) -> None:
         path = f"{self.table_folder.name}/.footers"
-        notes = ["[" * 100_000, '{"files": "a", "stamps": [[1, 2]]}', '{"files": ["a"], "stamps": [[1, 2.5]]}', '{"files": ["a"], "stamps": [[1, true]]}']
-        notes += ['{"files": [1], "stamps": [[1, 2]]}', '{"files": ["a"], "stamps": [[1]]}', '{"files": {"a": 1}, "stamps": [[1, 2]]}', "5"]
+        stamped = [("a", '1, 2, 3, ""'), (["a"], '1, 2, 3.5, ""'), (["a"], '1, 2, true, ""'), (["a"], "1, 2, 3, 4"), ([1], '1, 2, 3, ""'), (["a"], "1, 2, 3")]
+        notes = [f'{{"files": {json.dumps(files)}, "stamps": [[{stamp}]]}}' for files, stamp in [*stamped, ({"a": 1}, '1, 2, 3, ""')]]
+        notes += ["[" * 100_000, "5"]
         for note in notes:
             Footers(COLUMNS, [1]).save(path, note)
             with self.assertRaisesRegex(FooterError, "no table of files"):
                 cluster.Kept.load(path)
+        Footers(COLUMNS, [1]).save(path, '{"files": ["a"], "stamps": [[1, 2, 3, ""]]}')
+        self.assertEqual(cluster.Kept.load(path).stamps, [stamps.Stamp(1, 2, 3)])
 
     def test_files_that_are_no_footers(self) -> None:
         kept, _ = cluster.measure(self.client, self.table)

@@ -10,7 +10,7 @@ import time
 import unittest
 import urllib.parse
 
-from foalmorrow import Column, DType, FooterError, Footers, Precision, Stat, dataset
+from foalmorrow import Column, DType, FooterError, Footers, Precision, Stat, dataset, stamps
 from foalmorrow.dataset import DatasetError
 from foalmorrow.types import Date
 from tests.systems.table_rows import HAS_LIBRARY, TableTests, a_value, examples, lost, some_filters, untrue
@@ -110,7 +110,6 @@ class Reading(Directories):
         refused("'1.5' in the name of a folder is no date", "a=1.5/x.rows", partitions={"a": Date()})
         refused("no folder is named for the column 'z'", "a=1/x.rows", partitions={"z": DType.I32})
         refused("or two are", "a=1/a=2/x.rows")
-        refused("for the column n, and files have it too", "n=1/x.rows")
         refused("is more than 64 folders deep", "f/" * 70 + "x.rows")
         with self.assertRaisesRegex(DatasetError, "none.? can't be read"):
             dataset.read(self.folder + "/none")
@@ -121,11 +120,51 @@ class Reading(Directories):
         with self.assertRaisesRegex(DatasetError, "leads back into a folder above it"):
             self.read()
 
-    def test_types_that_differ(self) -> None:
-        self.write("a.rows", [{"n": 1}])
-        self.write("b.rows", [{"n": 1}], kinds={"n": "int"})
-        with self.assertRaisesRegex(DatasetError, "column n is i64 in a.rows and i32 in b.rows"):
-            self.read()
+    def test_column_of_folders_and_of_files_is_unknown(self) -> None:
+        self.write("n=1/x.rows", [{"n": 1, "m": 5}], kinds={"n": "long", "m": "long"})
+        table = self.read(partitions={"n": DType.I64})
+        self.assertEqual([(it.name, it.word) for it in table.columns], [("m", "i64?"), ("n", "unmapped(of folders and files)?")])
+        self.assertEqual({name for name, _ in table.footers.at(0)}, {"m"})
+        if HAS_LIBRARY:
+            answers = [len(table.files_for(wanted)) for wanted in ([("m", ">", 5)], [("n", ">", 5)], [("n", "is not", None)], [("n", "is", None)])]
+            self.assertEqual(answers, [0, 1, 1, 1])
+
+    def test_types_that_differ_are_unknown_where_they_do(self) -> None:
+        both = {"n": "long", "m": "long"}
+        self.write("a.rows", [{"n": 1, "m": 1}], kinds={"n": "int", "m": "long"}, nullable=False)
+        self.write("b.rows", [{"n": 2, "m": 2}], kinds=both, nullable=False)
+        self.write("c.rows", [{"n": 3, "m": 3}], kinds=both)
+        self.write("d.rows", [{"n": "x", "m": 4}], kinds={"n": "string", "m": "long"})
+        kept = os.path.join(self.folder, "_footers")
+        self.addCleanup(setattr, stamps, "SETTLED", stamps.SETTLED)
+        stamps.SETTLED = 0
+        for _ in range(2):
+            table = self.read(footers=kept)
+            self.assertEqual([column.word for column in table.columns], ["i64?", "i64?"])
+            known = [{name for name, stat in table.footers.at(zone) if stat != Stat.NULL_COUNT} for zone in range(4)]
+            self.assertEqual(known, [{"m"}, {"n", "m"}, {"n", "m"}, {"m"}])
+            self.assertEqual([table.footers.at(zone)["n", Stat.NULL_COUNT] for zone in range(4)], [(Precision.EXACT, 0)] * 4)
+            if HAS_LIBRARY:
+                self.assertEqual([it.path for it in table.files_for([("n", "==", 3)])], ["a.rows", "c.rows", "d.rows"])
+                self.assertEqual([it.path for it in table.files_for([("m", "==", 3)])], ["c.rows"])
+                self.assertEqual(table.files_for([("n", "is", None)]), [])
+
+    def test_column_of_the_null_type_is_null_where_it_is(self) -> None:
+        kinds = iter([DType.NULL, DType.I64, DType.I64, DType.NULL, DType.I64, DType.I64])
+
+        def reader(path: str) -> Footers:
+            kind = next(kinds)
+            return Footers([Column("n", kind)], [3], {})
+
+        for name in "abc":
+            self.write(f"{name}.rows", [{"n": 1}])
+        kept = os.path.join(self.folder, "_footers")
+        self.addCleanup(setattr, stamps, "SETTLED", stamps.SETTLED)
+        stamps.SETTLED = 0
+        for _ in range(2):
+            table = dataset.read(self.folder, reader=reader, suffix=".rows", footers=kept, map=lambda work, paths: [work(path) for path in paths])
+            self.assertEqual([column.word for column in table.columns], ["i64?"])
+            self.assertEqual([("n", Stat.NULL_COUNT) in table.footers.at(zone) for zone in range(3)], [False, True, True])
 
     def test_without_a_reader(self) -> None:
         self.write("a.parquet", [{"n": 1}])
@@ -154,8 +193,8 @@ class KeptFooters(Directories):
         super().setUp()
         self.kept = os.path.join(self.folder, "_footers")
         # Files that were changed within the last seconds are read anew.
-        self.addCleanup(setattr, dataset, "_SETTLED", dataset._SETTLED)
-        dataset._SETTLED = 0
+        self.addCleanup(setattr, stamps, "SETTLED", stamps.SETTLED)
+        stamps.SETTLED = 0
 
     def names(self) -> list[str]:
         """The files that are read."""
@@ -186,7 +225,7 @@ class KeptFooters(Directories):
         self.assertEqual(self.names(), ["a.rows"])
 
     def test_file_that_was_just_changed(self) -> None:
-        dataset._SETTLED = 2 * 10**9
+        stamps.SETTLED = 2 * 10**9
         self.write("a.rows", [{"n": 1}])
         self.assertEqual([self.names(), self.names()], [["a.rows"], ["a.rows"]])
 
@@ -222,8 +261,8 @@ class RandomDirectories(Directories):
     def test_no_wanted_row_is_skipped(self) -> None:
         skipped = []
         home = self.folder
-        self.addCleanup(setattr, dataset, "_SETTLED", dataset._SETTLED)
-        dataset._SETTLED = 0
+        self.addCleanup(setattr, stamps, "SETTLED", stamps.SETTLED)
+        stamps.SETTLED = 0
 
         @examples(50)
         def one(rng: random.Random) -> None:

@@ -300,7 +300,7 @@ class HostileLogs(Tables):
         self.refused("the field 'path' stands twice", '{"add": {"path": "a", "path": "b"}}')
         self.refused("is no action", '{"add": {}, "remove": {}}')
         self.refused("is no action", "[]")
-        self.refused("the action 'erase' isn't known", '{"erase": {}}')
+        self.refused("add is 3; expected an object", '{"add": 3}')
         self.refused("NaN is no number", '{"add": {"size": NaN}}')
         self.refused("a number has 5000 digits", '{"add": {"size": ' + "9" * 5000 + "}}")
         self.refused("exponent of 1e99999999999999999999", '{"add": {"size": 1e99999999999999999999}}')
@@ -318,33 +318,49 @@ class HostileLogs(Tables):
         self.refused("size is -1", self.added(size=-1))
         self.refused("size is True", self.added(size=True))
         self.refused("partitionValues is .'a'.", self.added(partitionValues=["a"]))
-        self.refused("stats: this is no JSON", self.added(stats="{"))
-        self.refused("stats is .1.", self.added(stats="[1]"))
+        self.refused("cardinality isn't there", self.added(deletionVector={"storageType": "u", "pathOrInlineDv": "a"}))
+
+    def test_actions_that_are_not_known_are_passed_over(self) -> None:
+        writer = self.writer({"n": "long"})
+        writer.commit(*writer.begin(), {"erase": {}}, writer.add("a", [{"n": 1}]), {"erased": 3})
+        table = delta.read(self.folder)
+        self.assertEqual([file.path for file in table.files], ["a"])
+
+    def unknown(self, wanted: set[str], rows: int | None = 3, **changed: object) -> None:
+        """Of the columns but the wanted ones nothing is known in a file, and of another file all is."""
+        kinds = {"n": "long", "m": "long", "t": "string", "at": "timestamp", "x": "float", "p": "decimal(4,2)"}
+        writer = self.writer(kinds)
+        good = dict.fromkeys(kinds) | {"m": 9}
+        writer.commit(*writer.begin(), json.loads(self.added(**changed)), writer.add("good", [good]))
+        table = delta.read(self.folder)
+        self.assertEqual((table.files[0].rows, {name for name, _ in table.footers.at(0)}), (rows, wanted))
+        self.assertEqual(table.footers.at(1)["n", Stat.NULL_COUNT], (Precision.EXACT, 1))
+        if HAS_LIBRARY:
+            for name in kinds.keys() - wanted - {"m"}:
+                self.assertEqual([it.path for it in table.files_for([(name, "is not", None)])], ["a"], name)
+            self.assertEqual([it.path for it in table.files_for([("m", "==", 9)])], ["good"] if "m" in wanted else ["a", "good"])
+
+    def test_statistics_that_cannot_be_are_unknown(self) -> None:
+        for name, stats in (
+            ("n", {"maxValues": {"n": 2**63}}), ("n", {"minValues": {"n": "x"}}), ("n", {"minValues": {"n": True}}), ("n", {"minValues": {"n": 1.0}}),
+            ("n", {"minValues": {"n": 2}, "maxValues": {"n": 1}}), ("n", {"minValues": {"n": 2}, "nullCount": {"n": 4}}), ("n", {"nullCount": {"n": {"a": 1}}}),
+            ("t", {"minValues": {"t": 3}}), ("t", {"minValues": {"t": "\ud800"}}), ("at", {"minValues": {"at": "yesterday"}}), ("at", {"maxValues": {"at": "+999999999-01-01T00:00:00Z"}}),
+            ("x", {"minValues": {"x": 1e39}}), ("x", {"minValues": {"x": "nan"}}), ("p", {"minValues": {"p": 100}}),
+        ):
+            told: dict = {"numRecords": 3, "minValues": {"m": 5}, "maxValues": {"m": 6}, "nullCount": dict.fromkeys(("n", "m", "t", "at", "x", "p"), 1)}
+            for word, values in stats.items():
+                told[word] |= values
+            with self.subTest(name, stats=stats):
+                self.unknown({"n", "m", "t", "at", "x", "p"} - {name}, stats=json.dumps(told))
+
+    def test_file_whose_statistics_cannot_be_read_is_unknown(self) -> None:
+        nulls = {"nullCount": {"n": 0, "m": 0}}
         vector = {"storageType": "u", "pathOrInlineDv": "a", "sizeInBytes": 1, "cardinality": 2}
-        self.refused("2 of 1 rows are deleted", self.added(stats='{"numRecords": 1}', deletionVector=vector))
-
-    def test_statistics(self) -> None:
-        def told(**stats: object) -> str:
-            return self.added(stats=json.dumps({"numRecords": 3, **stats}))
-
-        self.refused("numRecords is 9223372036854775808", told(numRecords=2**63))
-        self.refused(r"numRecords is Decimal\('1.5'\)", told(numRecords=1.5))
-        self.refused("column n: 9223372036854775808 is no long", told(maxValues={"n": 2**63}))
-        self.refused("column n: 'x' is no long", told(minValues={"n": "x"}))
-        self.refused("column n: True is no long", told(minValues={"n": True}))
-        self.refused(r"column n: Decimal\('1.0'\) is no long", told(minValues={"n": 1.0}))
-        self.refused("column n: the least value is above the greatest", told(minValues={"n": 2}, maxValues={"n": 1}))
-        self.refused("column n: nullCount is 4", told(nullCount={"n": 4}))
-        self.refused("column n: nullCount is {'a': 1}", told(nullCount={"n": {"a": 1}}))
-        self.refused("column t: .* has half of a character", told(minValues={"t": "\ud800"}))
-        self.refused("column t: 3 is no string", told(minValues={"t": 3}))
-        self.refused("column at: 'yesterday' is no timestamp", told(minValues={"at": "yesterday"}))
-        self.refused("column at: '.*' is no timestamp", told(maxValues={"at": "+999999999-01-01T00:00:00Z"}))
-        self.refused("column x: .* is no float", told(minValues={"x": 1e39}))
-        self.refused("column x: 'nan' is no float", told(minValues={"x": "nan"}))
-        self.refused("column p: .* is no decimal", told(minValues={"p": 100}))
-        self.refused("minValues is 3", told(minValues=3))
-        self.refused("tightBounds is 1", told(tightBounds=1))
+        stats = [{"numRecords": 2**63}, {"numRecords": 1.5}, {"minValues": 3}, {"tightBounds": 1}]
+        for text in ("{", "[1]", '{"numRecords": 3, "numRecords": 3}', *(json.dumps({"numRecords": 3, **nulls, **it}) for it in stats)):
+            with self.subTest(text):
+                self.unknown(set(), None, stats=text)
+        self.unknown(set(), None, stats=json.dumps({"numRecords": 1, **nulls}), deletionVector=vector)
 
     def test_tables(self) -> None:
         self.refused("the log has no protocol", "", begin=False)

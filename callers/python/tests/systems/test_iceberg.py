@@ -250,22 +250,44 @@ class HostileTables(Tables):
         self.refused(words, writer.save())
 
     def test_files(self) -> None:
-        self.refused_file("n: b'123' is no long", lower_bounds=b"123")
-        self.refused_file("n: b'1234' is no time", "time", lower_bounds=b"1234")
-        self.refused_file("n: 86400000000 is no time", "time", lower_bounds=(86_400 * 10**6).to_bytes(8, "little"))
-        self.refused_file("a bound isn't UTF-8", "string", upper_bounds=b"\xff")
-        self.refused_file("b'.x02' is no boolean", "boolean", lower_bounds=b"\2")
-        self.refused_file("is no decimal", "decimal(4,2)", lower_bounds=b"\x7f\xff")
-        self.refused_file("is no decimal", "decimal(4,2)", lower_bounds=b"")
-        self.refused_file("is no fixed.2.", "fixed[2]", lower_bounds=b"abc")
-        self.refused_file("is no uuid", "uuid", lower_bounds=b"abc", upper_bounds=b"abc")
-        self.refused_file("the least value is above the greatest", lower_bounds=bytes([2] * 8), upper_bounds=bytes([1] * 8))
-        self.refused_file("9223372036854775807 is no timestamp|4 of 3", "timestamp", null_value_counts=4)
-        self.refused_file("-1 is no count", value_counts=-1)
-        self.refused_file("record_count is -1", record_count=-1)
         self.refused_file("the status is 7", status=7)
         self.refused_file("content 1 in a manifest of data", content=1)
         self.refused_file("sequence_number isn't there", status=0)
+        self.refused_file("file_size_in_bytes is -1", file_size_in_bytes=-1)
+
+    def unknown_file(self, kind: str = "long", rows: int | None = 3, **changed: object) -> None:
+        """Of a column whose metrics can't be nothing is known in its file, and the other columns and files are pruned by."""
+        writer = self.writer({"n": kind, "m": "long"})
+        bad = writer.data_file("bad", [{"n": None, "m": 5}], record_count=3)
+        for name, value in changed.items():
+            if not name.endswith(("bounds", "counts")):
+                bad[name] = value
+                continue
+            pairs = value if isinstance(value, list) else [{"key": 1, "value": value}]
+            bad[name] = [*pairs, *(it for it in bad[name] if it["key"] != 1)]
+        writer.snapshot(writer.manifest(bad, writer.data_file("good", [{"n": None, "m": 9}])))
+        table = iceberg.read(writer.save())
+        told = table.footers.at(0)
+        self.assertEqual((table.files[0].rows, [key for key in told if key[0] == "n"], ("m", Stat.MIN) in told), (rows, [], rows is not None))
+        self.assertEqual(table.footers.at(1)["n", Stat.NULL_COUNT], (Precision.EXACT, 1))
+        if HAS_LIBRARY:
+            self.assertEqual([it.path for it in table.files_for([("n", "is not", None)])], ["bad"])
+            self.assertEqual([it.path for it in table.files_for([("m", "==", 9)])], ["good"] if ("m", Stat.MIN) in told else ["bad", "good"])
+
+    def test_metrics_that_cannot_be_are_unknown(self) -> None:
+        for kind, changed in (
+            ("long", {"lower_bounds": b"123"}), ("time", {"lower_bounds": b"1234"}), ("time", {"lower_bounds": (86_400 * 10**6).to_bytes(8, "little")}),
+            ("string", {"upper_bounds": b"\xff"}), ("boolean", {"lower_bounds": b"\2"}), ("decimal(4,2)", {"lower_bounds": b"\x7f\xff"}),
+            ("decimal(4,2)", {"lower_bounds": b""}), ("fixed[2]", {"lower_bounds": b"abc"}), ("uuid", {"lower_bounds": b"abc", "upper_bounds": b"abc"}),
+            ("long", {"lower_bounds": bytes([2] * 8), "upper_bounds": bytes([1] * 8)}), ("long", {"value_counts": 3, "null_value_counts": 4}),
+        ):
+            with self.subTest(kind, **changed):
+                self.unknown_file(kind, **changed)
+
+    def test_file_whose_numbers_cannot_be_is_unknown(self) -> None:
+        for changed in ({"value_counts": -1}, {"record_count": -1}, {"value_counts": [{"key": 1, "value": 3}] * 3}):
+            with self.subTest(**changed):
+                self.unknown_file(rows=None, **changed)
 
     def test_entries(self) -> None:
         writer = self.writer({"n": "long"})
@@ -275,9 +297,6 @@ class HostileTables(Tables):
         manifest = writer.manifest(file)
         writer.snapshot(manifest, manifest)
         self.refused("the manifest .* stands twice", writer.save())
-        twice = [{"key": 1, "value": 3}] * 2
-        writer.snapshot(writer.manifest({**file, "value_counts": twice}))
-        self.refused("column number 1 stands twice", writer.save())
         # A list that names itself.
         writer.snapshot(writer.manifest(file))
         path = writer.snapshots[-1]["manifest-list"]

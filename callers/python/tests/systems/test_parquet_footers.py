@@ -8,7 +8,7 @@ import random
 import struct
 import unittest
 
-from foalmorrow import Stat, dataset, parquet_footers
+from foalmorrow import Footers, Stat, col, dataset, parquet_footers
 from foalmorrow.parquet_footers import ParquetFault
 from tests.systems.parquet_writer import Raw, thrift
 from tests.systems.table_rows import HAS_LIBRARY, SEED, TableTests, a_value, examples, lost, order, some_filters, untrue
@@ -189,17 +189,51 @@ class Files(TableTests):
         path.write_bytes(b"PAR1" + footer + struct.pack("<I", len(footer)) + b"PAR1")
         return [(key, value) for key, (_, value) in parquet_footers.read(path).at(0).items()]
 
-    def test_refusals(self) -> None:
-        for given, words in (
-            ([(3, 4)], "4 of 3 rows are null"),
-            ([(3, -1)], "-1 of 3 rows are null"),
-            ([(1, b"abc")], "a bound has 3 bytes; expected 8"),
-            ([(1, plain("n", 1)), (2, plain("n", 2))], "row group 0, column n: the least value is above the greatest"),
+    def test_statistics_that_cannot_be_are_unknown(self) -> None:
+        for given in (
+            [(3, 4)], [(3, -1)], [(1, b"abc"), (3, 0)], [(1, plain("n", 1)), (2, plain("n", 2)), (3, 0)], [(3, True)], [(3, b"1")], [(1, 7), (3, 0)],
         ):
-            with self.subTest(words), self.assertRaisesRegex(ParquetFault, words):
-                self.told("n", *given)
-        with self.assertRaisesRegex(ParquetFault, "300 is no u8"):
-            self.told("u8", (5, plain("u8", 300)), is_ordered=True)
+            with self.subTest(given):
+                self.assertEqual(self.told("n", *given), [])
+        self.assertEqual(self.told("u8", (3, 0), (5, plain("u8", 300)), is_ordered=True), [])
+        self.assertEqual(self.told("ok", (1, b"\2"), (3, 0)), [])
+
+    def two_columns(self, *columns: tuple[Raw, bytes], rows: int = 3) -> Footers:
+        """Footers of columns, each with its element of the schema and its statistics."""
+        chunks = [Raw(thrift((3, Raw(thrift((1, 2), (5, rows), (12, Raw(told))))))) for _, told in columns]
+        group = Raw(thrift((1, chunks), (3, rows)))
+        footer = thrift((2, [Raw(thrift((4, b"r"), (5, len(columns)))), *(it for it, _ in columns)]), (4, [group]))
+        path = pathlib.Path(self.folder) / "a.parquet"
+        path.write_bytes(b"PAR1" + footer + struct.pack("<I", len(footer)) + b"PAR1")
+        return parquet_footers.read(path)
+
+    def test_columns_that_nobody_names_refuse_no_file(self) -> None:
+        good = element("n"), thrift((1, plain("n", 9)), (2, plain("n", 5)), (3, 0))
+        some = thrift((1, plain("i", 9)), (2, plain("i", 5)), (3, 0))
+        text = Raw(thrift((1, 6), (3, 1), (4, b"i"), (6, 0)))
+
+        def annotated(number: int) -> Raw:
+            """A column of 64 bits whose annotation lacks what it has to say."""
+            return Raw(thrift((1, 2), (3, 1), (4, b"i"), (10, Raw(thrift((number, Raw(thrift((2, Raw(thrift()))))))))))
+
+        for bad, word in (
+            ([(element("i"), some), (text, thrift((1, b"x"), (2, b"a"), (3, 0)))], "unmapped(one of several)?"),
+            ([(text, thrift((1, b"x"), (2, b"a"), (3, 0))), (element("i"), some)], "unmapped(one of several)?"),
+            ([(element("i"), thrift((1, plain("i", 1)), (2, plain("i", 2)), (3, 0)))], "i32?"),
+            *(([(annotated(number), some)], "unmapped(unknown)?") for number in (5, 7, 8, 10)),
+            ([(Raw(thrift((1, 7), (3, 1), (4, b"i"))), some)], "unmapped(unknown)?"),
+            ([(Raw(thrift((3, 1), (4, b"i"))), some)], "unmapped(unknown)?"),
+        ):
+            for columns in ([good, *bad], [*bad, good]):
+                found = self.two_columns(*columns)
+                self.assertEqual({column.name: column.word for column in found.columns}, {"n": "i64?", "i": word})
+                self.assertEqual({(name, stat) for name, stat in found.at(0)} - {("i", Stat.NULL_COUNT)}, {("n", stat) for stat in (Stat.MIN, Stat.MAX, Stat.NULL_COUNT)})
+                self.assertEqual(("i", Stat.NULL_COUNT) in found.at(0), word == "unmapped(unknown)?")
+                if HAS_LIBRARY:
+                    wanted = col("i") == "x" if word.startswith("unmapped") else col("i") == 7
+                    self.assertEqual([list(found.prune(it)) for it in (col("n") > 9, wanted, (col("n") > 9) & wanted)], [[1], [0], [1]])
+        name = self.two_columns(good, (Raw(thrift((1, 1), (3, 1), (4, b"\xff"))), some))
+        self.assertEqual([column.name for column in name.columns], ["n", "\\xff"])
 
     def test_each_byte(self) -> None:
         path = pathlib.Path(self.folder) / "a.parquet"
