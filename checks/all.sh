@@ -1,6 +1,6 @@
 #!/usr/bin/env bash
 # SPDX-License-Identifier: Apache-2.0
-# Runs every check that the gate doesn't run, and prints one line for each.
+# Runs every check that the gate doesn't run, and some that it does, and prints one line for each.
 # usage: checks/all.sh            proves and builds the program and the tests of refusals first if they aren't built yet
 #        checks/all.sh --built    takes the tests of refusals that the gate left here just before
 set -u
@@ -35,6 +35,7 @@ first_example() {
 }
 
 check "layout" checks/layout.py
+check "wrong bodies" checks/edits.py
 check "program" first_example
 check "examples" examples/compare.sh
 check "the command-line tool" checks/tool.sh

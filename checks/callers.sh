@@ -6,6 +6,14 @@
 set -eu
 cd "$(dirname "$0")/.."
 out=callers/out
+
+# Whether a command is there; where it isn't, what is left out for want of it is told.
+has() {
+    command -v "$1" > /dev/null || { echo "callers: $2 left out: there is no $1"; return 1; }
+}
+for tool in cc ar ld objcopy nm; do
+    has "$tool" "the library for callers and all of them" || exit 0
+done
 mkdir -p "$out/parts"
 
 checks/build.py vortex_ffi
@@ -28,7 +36,7 @@ for program in round_trip mutations stack example parquet; do
     compiled "$program" "$program"
     "$out/$program"
 done
-c++ -fsyntax-only -Wall -Wextra -Werror -x c++ callers/c/vortex.h
+if has c++ "the header as C++ reads it"; then c++ -fsyntax-only -Wall -Wextra -Werror -x c++ callers/c/vortex.h; fi
 if compiled sanitized mutations -fsanitize=address,undefined -fno-sanitize-recover=all 2> /dev/null; then
     "$out/sanitized"
     echo "callers: no fault under the address sanitizer"
@@ -41,14 +49,19 @@ if command -v valgrind > /dev/null; then
 fi
 
 # Rust, without a network; its form, its lints and its pages where the tools are there.
-(cd callers/rust && export CARGO_TARGET_DIR=../out/rust RUSTFLAGS=-Dwarnings RUSTDOCFLAGS=-Dwarnings
- cargo test --offline --quiet && cargo run --offline --quiet --example footers -- ../out/six_days.footers
- if cargo fmt --version > /dev/null 2>&1; then cargo fmt --check; fi
- if cargo clippy --version > /dev/null 2>&1; then cargo clippy --offline --quiet --all-targets; fi
- cargo doc --offline --quiet)
+rust_run() {
+    (cd callers/rust && export CARGO_TARGET_DIR=../out/rust RUSTFLAGS=-Dwarnings RUSTDOCFLAGS=-Dwarnings
+     cargo test --offline --quiet
+     cargo run --offline --quiet --example footers -- ../out/six_days.footers
+     if cargo fmt --version > /dev/null 2>&1; then cargo fmt --check; fi
+     if cargo clippy --version > /dev/null 2>&1; then cargo clippy --offline --quiet --all-targets; fi
+     cargo doc --offline --quiet)
+}
+if has cargo "callers in Rust"; then rust_run; fi
+has python3 "callers in Python" || exit 0
 
 # A file of footers that Rust has written is read by Python, and written by it alike.
-(cd callers/python && PYTHONDONTWRITEBYTECODE=1 python3 -c '
+[ ! -f "$out/six_days.footers" ] || (cd callers/python && PYTHONDONTWRITEBYTECODE=1 python3 -c '
 import pathlib, sys
 from foalmorrow import Footers
 data = pathlib.Path(sys.argv[1]).read_bytes()
@@ -72,7 +85,7 @@ python_run() {
 }
 python_tests() {
     python_run "$1" -W error -m unittest -q tests.test_predicate tests.test_reading tests.test_files tests.test_footers tests.test_random \
-        tests.test_prune tests.test_frames tests.test_library tests.test_docs tests.test_filters tests.test_sqlite
+        tests.test_prune tests.test_frames tests.test_library tests.test_docs tests.test_filters tests.test_sqlite tests.test_sql_types
     python_run "$1" examples/footers.py
 }
 python_has() { "$1" -c "import $2" 2> /dev/null; }

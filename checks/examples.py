@@ -11,6 +11,7 @@ are one program, which sees the folder `examples`. A block of Rust or C without 
 """
 import os
 import re
+import shutil
 import subprocess
 import sys
 import tempfile
@@ -19,6 +20,8 @@ ROOT = os.path.dirname(os.path.dirname(os.path.abspath(__file__)))
 os.chdir(ROOT)
 OUT = f"{ROOT}/callers/out"
 MARK = "\x1e"
+# What runs the blocks of a language.
+RUNS = {"python": "python3", "rust": "cargo", "c": "cc", "sh": "bash"}
 RUST = "#![allow(unused_imports)]\nuse foalmorrow::*;\nfn main() -> Result<(), Box<dyn std::error::Error>> {{\n{}\nOk(())\n}}\n"
 C = '#include "vortex.h"\n#include <stdio.h>\n#include <stdlib.h>\n#include <string.h>\nint main(void) {{\n{}\nreturn 0;\n}}\n'
 
@@ -90,7 +93,7 @@ def printed(language, code, folder):
 
 def results(f, folder):
     """What each block of a page prints, beside what the page says of it."""
-    found = list(blocks(f))
+    found = [it for it in blocks(f) if shutil.which(RUNS.get(it[1], "sh"))]
     ours = [it for it in found if it[1] == "python"]
     if ours:
         for it, text in zip(ours, printed_by_python([it[2] for it in ours], folder)):
@@ -107,7 +110,11 @@ def faults(f):
                 if said is not None and said != text:
                     yield f"{f}:{line}: the {language} prints\n{text}and not\n{said}"
         except (RuntimeError, subprocess.TimeoutExpired) as fault:
-            yield f"{f}: an example doesn't run: {fault}"
+            missing = re.search(r"^ModuleNotFoundError: No module named '(\w+)", str(fault), re.M)
+            if missing and missing[1] != "foalmorrow":
+                print(f"examples: the Python of {f} left out: there is no {missing[1]}")
+            else:
+                yield f"{f}: an example doesn't run: {fault}"
 
 
 def main():
@@ -121,6 +128,8 @@ def main():
     if missing:
         print(f"examples: {OUT} has no {' and no '.join(missing)}; checks/callers.sh --build makes them")
         return 1
+    for it in sorted({it[1] for f in chosen for it in blocks(f) if not shutil.which(RUNS.get(it[1], "sh"))}):
+        print(f"examples: those in {it} left out: there is no {RUNS[it]}")
     found = [it for f in chosen if count[f] for it in faults(f)]
     print("\n".join(found) or f"examples: {sum(count.values())} blocks of {sum(map(bool, count.values()))} pages run and print what they say")
     return 1 if found else 0

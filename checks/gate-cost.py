@@ -1,6 +1,6 @@
 #!/usr/bin/env python3
 # SPDX-License-Identifier: Apache-2.0
-"""Runs the gate in a clone of the last commit, and prints what it cost: processor minutes of each crate's proof, tests and must-fail edits.
+"""Runs the gate in a clone of the last commit, and prints what it cost: processor minutes of each crate's proof, tests and wrong bodies.
 
 usage: checks/gate-cost.py
 
@@ -31,22 +31,31 @@ def process(pid):
 
 
 def below(gate):
-    """The children of the gate: what each cost so far with all below it, its command, its folder and when it began."""
+    """The runs of the prover below the gate: what each cost so far with all below it, its command, its folder and when it began."""
     seen = {int(pid): process(pid) for pid in os.listdir("/proc") if pid.isdigit()}
     seen = {pid: found for pid, found in seen.items() if found}
     children = collections.defaultdict(list)
     for pid, found in seen.items():
         children[found[0]].append(pid)
     spent = lambda pid: seen[pid][1] + sum(spent(child) for child in children[pid])
-    return {pid: (spent(pid), *seen[pid][2:]) for pid in children[gate]}
+    return {pid: (spent(pid), *seen[pid][2:]) for pid in provers(gate, seen, children)}
 
 
-def kind(command, folder):
-    """The crate that a command is for, and which of the three kinds of work it is: a try of an edit has a copy of the crate alone."""
+def provers(pid, seen, children):
+    """The processes below one that work on a crate, without those that they have begun."""
+    for child in children[pid]:
+        if " --crate-name " in seen[child][2]:
+            yield child
+        else:
+            yield from provers(child, seen, children)
+
+
+def kind(command):
+    """The crate that a command is for, and which of the three kinds of work it is: a try of a wrong body looks at some functions alone."""
     crate = re.search(r"--crate-name (\S+)", command)
     if not crate:
         return "other", 0
-    if os.path.basename(folder) != crate.group(1):
+    if " --only " in command:
         return crate.group(1), 2
     return crate.group(1), 1 if " --test" in command else 0
 
@@ -55,9 +64,9 @@ def watch(gate):
     """The seconds of each crate and kind of work, until the gate ends."""
     latest = {}
     while gate.poll() is None:
-        for pid, (seconds, command, folder, start) in below(gate.pid).items():
+        for pid, (seconds, command, _, start) in below(gate.pid).items():
             if "rattle" in command:
-                latest[pid, start, kind(command, folder)] = seconds
+                latest[pid, start, kind(command)] = seconds
         time.sleep(1)
     cost = collections.defaultdict(lambda: [0.0, 0.0, 0.0])
     for (_, _, (crate, which)), seconds in latest.items():

@@ -1,37 +1,31 @@
 #!/usr/bin/env python3
 # SPDX-License-Identifier: Apache-2.0
-"""Looks at the layout of the repository: its files, imports, pages, links, edits, and the pages that scripts write.
+"""Looks at the layout of the repository: its files, imports, pages, links, edits, its ledger, and the pages that scripts write.
 
 usage: checks/layout.py          says what is wrong, one line each, and fails if anything is
        checks/layout.py --map    prints docs/MAP.md, which checks/pages.py writes
 """
+import functools
 import os
 import re
 import subprocess
 import sys
 
+import edit
+import ledger
 import pages
+import sources
 import words
+from sources import read
 
-os.chdir(os.path.dirname(os.path.dirname(os.path.abspath(__file__))))
+os.chdir(sources.TOP)
 
-
-def read(f):
-    with open(f, encoding="utf-8") as file:
-        return file.read()
-
-
-def tracked_files():
-    told = subprocess.run(["git", "ls-files"], capture_output=True, text=True, check=True).stdout
-    return [f for f in told.split("\n") if f and os.path.exists(f)]
-
-
-TRACKED = tracked_files()
-SOURCES = sorted(f for f in TRACKED if f.startswith("crates/") and f.endswith((".rt", ".antt")))
-TEXTS = {f: read(f) for f in SOURCES}
+TRACKED = sources.tracked()
+TEXTS = sources.texts()
+SOURCES = list(TEXTS)
 CODE = {f: text for f, text in TEXTS.items() if f.endswith(".rt")}
 # A trait may be imported for its methods alone.
-TRAITS = {"BufRead", "Read", "Write"} | {name for text in CODE.values() for name in re.findall(r"^pub trait (\w+)", text, re.M)}
+TRAITS = {"BufRead", "Read", "ToSpan", "Write"} | {name for text in CODE.values() for name in re.findall(r"^pub trait (\w+)", text, re.M)}
 # The crates whose public clauses have a witness wherever they have a premise.
 WITNESSED = ("vortex_zone_map", "vortex_prune", "vortex_predicates", "vortex_capi", "vortex_text")
 
@@ -138,38 +132,76 @@ def contracts(f):
 
 
 def offered(crate):
-    """The functions that a crate offers, with the lines of their contracts: those of public files, and the methods of the types there."""
+    """The functions that a crate offers, with their files and the lines of their contracts: those of public files, and the methods of the types there."""
     files = public_files(crate)
     types = {it for f in files for it in re.findall(r"^pub (?:struct|enum) (\w+)", CODE[f], re.M)}
     for f in (it for it in CODE if it.startswith(f"crates/{crate}/")):
-        yield from (it for it in contracts(f) if (it[0].split("::")[0] in types if "::" in it[0] else f in files))
+        yield from ((f, *it) for it in contracts(f) if (it[0].split("::")[0] in types if "::" in it[0] else f in files))
+
+
+@functools.cache
+def stated(f):
+    """What a file of specs defines, by name: a record by its facts and their names, and another definition by its equations, under no name."""
+    text = TEXTS.get(f, "")
+    records = re.findall(r"^pub record (\w+).*? where\n((?:  .*\n)+)", text, re.M)
+    found = {name: re.findall(r"^  pub (\w+) : (.*?)(?=^  (?:pub|--) |\Z)", facts, re.M | re.S) for name, facts in records}
+    others = re.findall(r"^( *)(?:abbrev |unfoldable )?pub (\w+) : .*Type 0\n((?:\1\2\b.*\n(?:\1 .*\n)*)+)", text, re.M)
+    return found | {name: [("", equations)] for _, name, equations in others}
+
+
+def is_record(facts):
+    return facts[0][0] != ""
 
 
 def promised(crate):
     """The records of promises of a crate, by their names: the facts of each, with their names."""
-    texts = [text for f, text in TEXTS.items() if re.fullmatch(rf"crates/{crate}/specs/(?:\w+/)*Promises\.antt", f)]
-    records = re.findall(r"^pub record (\w+).*? where\n((?:  .*\n)+)", "\n".join(texts), re.M)
-    return {name: re.findall(r"^  pub (\w+) : (.*?)(?=^  (?:pub|--) |\Z)", facts, re.M | re.S) for name, facts in records}
+    files = (f for f in TEXTS if re.fullmatch(rf"crates/{crate}/specs/(?:\w+/)*Promises\.antt", f))
+    return {name: facts for f in files for name, facts in stated(f).items() if is_record(facts)}
 
 
-def facts(clause, text, records):
-    """A clause, or in its place the facts of the records of promises that it cites, each with what the clause says before them."""
-    cited = [it for it in records if re.search(rf"\b{it}\b", text)]
-    if not cited:
-        yield clause, text
-    for record in cited:
-        for name, fact in records[record]:
-            yield from facts(f"{clause}.{name}", re.sub(rf"\b{record}\b", "", text) + fact, records)
+def cited(f, text):
+    """What a text of a file cites of the specs of the witnessed crates: the file, the name and the facts of each definition."""
+    form = rf"^(?:ghost )?use Rattle\.((?:{'|'.join(WITNESSED)})\.specs\.[\w.]+?)(?:\.\{{([^}}]*)\}}| as (\w+));?$"
+    names = {(f, name): name for name in stated(f)}
+    for module, items, alias in re.findall(form, TEXTS[f], re.M):
+        place = f"crates/{module.replace('.', '/')}.antt"
+        names |= {(place, name): rf"{alias}\.{name}" for name in stated(place)} if alias else {}
+        names |= {(place, it.split(" as ")[0]): it.split(" as ")[-1] for it in items.split(", ") if it.split(" as ")[0] in stated(place)}
+    return [(*it, stated(it[0])[it[1]]) for it, written in names.items() if re.search(rf"(?<![\w.]){written}\b", text)]
+
+
+def concluded(f, text):
+    """What a text cites behind its last premise."""
+    return cited(f, text.rpartition("→")[2])
+
+
+def is_conditional(text):
+    """Whether a text has a premise: an arrow behind more than what it ranges over."""
+    return "→" in re.sub(r"\([\w ]+ : (?:[^()]|\([^()]*\))*\)(?: →)?", "", text)
+
+
+def has_premise(f, text):
+    """Whether a text of a file has a premise, or the definition does that it concludes with."""
+    return is_conditional(text) or any(is_conditional(fact) for *_, facts in concluded(f, text) for _, fact in facts)
+
+
+def facts_of(clause, f, text, said=""):
+    """A clause of a file with what it says, or in its place the facts of each record that it concludes with, if that is one of promises or one of its facts has a premise."""
+    records = [it for it in concluded(f, text) if is_record(it[2]) and (it[0].endswith("/Promises.antt") or any(has_premise(it[0], fact) for _, fact in it[2]))]
+    if not records:
+        yield clause, (said + text, is_conditional(said) or has_premise(f, text))
+    for place, record, facts in records:
+        for name, fact in facts:
+            yield from facts_of(f"{clause}.{name}", place, fact, re.sub(rf"\b{record}\b", "", said + text))
 
 
 def public_clauses():
-    """The clauses of what the witnessed crates offer: their names and texts, and for a record of promises those of its facts."""
+    """The clauses of what the witnessed crates offer, and for a record those of its facts: their names, what they say, and whether they have a premise."""
     form = r"^\s*ensures(?: (\w+))? \{(.*?)(?=^\s*(?:ensures|requires)\b|\Z)"
     for crate in WITNESSED:
-        records = promised(crate)
-        for function, contract in offered(crate):
+        for f, function, contract in offered(crate):
             for name, text in re.findall(form, "\n".join(contract), re.M | re.S):
-                yield from facts(f"{crate}::{function}" + (f".{name}" if name else ""), text, records)
+                yield from facts_of(f"{crate}::{function}" + (f".{name}" if name else ""), f, text)
 
 
 def relations(text):
@@ -177,35 +209,35 @@ def relations(text):
     return set(re.findall(r"\b(?:Is|Are|Has)[A-Z]\w*", text)) - {"IsTrue", "IsOk"}
 
 
-def witness_fault(clause, text, cited):
+def witness_fault(clause, text, witness):
     """Why a witness, which is cited by its module and name, is none of the clause, or None."""
-    module, _, name = cited.partition(".")
+    module, _, name = witness.partition(".")
     files = [f for f in TEXTS if f.startswith(f"crates/{clause.split('::')[0]}/proofs/") and f.endswith(f"/{module}.antt")]
-    stated = [it for f in files for it in re.findall(rf"^(?:pub )?{re.escape(name)} : (.*?)^(?:unfolding|{re.escape(name)}) ", TEXTS[f], re.M | re.S)]
-    if len(stated) != 1 or "IsWitness" not in stated[0]:
-        return f"there is no witness {cited}"
-    missing = relations(text) - relations(stated[0])
-    return f"{cited} says nothing of {', '.join(sorted(missing))}, as {clause} does" if missing else None
+    found = [it for f in files for it in re.findall(rf"^(?:pub )?{re.escape(name)} : (.*?)^(?:unfolding|{re.escape(name)}) ", TEXTS[f], re.M | re.S)]
+    if len(found) != 1 or "IsWitness" not in found[0]:
+        return f"there is no witness {witness}"
+    missing = relations(text) - relations(found[0])
+    return f"{witness} says nothing of {', '.join(sorted(missing))}, as {clause} does" if missing else None
 
 
 def witness_faults():
-    """Public clauses with a premise, which an arrow tells, for which no witness is named, and lines that name a clause or a witness that isn't there."""
-    page, clauses, named, cited = "docs/WITNESSES.md", dict(public_clauses()), set(), set()
+    """Public clauses with a premise for which no witness is named, and lines that name a clause or a witness that isn't there."""
+    page, clauses, named, used = "docs/WITNESSES.md", dict(public_clauses()), set(), set()
     for number, cells in rows_of(page):
         if not cells[0].startswith("`"):
             continue
         clause, witness = cells[0].strip("`"), cells[-1].strip("`")
         named.add(clause)
-        fault = None if witness.startswith("none: ") else witness_fault(clause, clauses.get(clause, ""), witness)
+        fault = None if witness.startswith("none: ") else witness_fault(clause, clauses.get(clause, ("", False))[0], witness)
         if clause not in clauses:
             fault = f"there is no clause {clause}"
-        elif (clause.split("::")[0], witness) in cited:
+        elif (clause.split("::")[0], witness) in used:
             fault = f"{witness} is named twice"
         if fault:
             yield f"{page}:{number}: {fault}"
         if not witness.startswith("none: "):
-            cited.add((clause.split("::")[0], witness))
-    yield from (f"{page}: no witness is named for {it}" for it in sorted(clauses) if "→" in clauses[it] and it not in named)
+            used.add((clause.split("::")[0], witness))
+    yield from (f"{page}: no witness is named for {it}" for it in sorted(clauses) if clauses[it][1] and it not in named)
 
 
 def leads_somewhere(f, link):
@@ -244,47 +276,6 @@ def quote_faults():
                 yield f"{f}: the text that is said to be {place} isn't that"
 
 
-def crate_of_edit(f):
-    """The crate that an edit is one of."""
-    return f.split("/")[-3] if "/must-fail/" in f else f.split("/")[-2]
-
-
-def edit_fault(f):
-    """Why an edit can't be applied to the crate as it stands, or None."""
-    crate = crate_of_edit(f)
-    texts, file = {}, None
-    old = None
-    for line in read(f).rstrip("\n").split("\n"):
-        word, _, rest = line.partition(": ")
-        if word == "file":
-            file = f"crates/{crate}/{rest}"
-            if file not in TEXTS:
-                return f"there is no file {rest}"
-            texts.setdefault(file, TEXTS[file])
-        elif word == "old":
-            old = rest
-            if texts[file].count(old) != 1:
-                return f"the text stands {texts[file].count(old)} times in its file: {old.strip()}"
-        elif word == "new":
-            texts[file] = texts[file].replace(old, rest)
-    return None
-
-
-def edit_faults():
-    for f in TRACKED:
-        fault = edit_fault(f) if f.endswith(".edit") else None
-        if fault:
-            yield f"{f}: {fault}"
-
-
-def goal_faults():
-    """Edits for which no goal is named, and goals of edits that aren't there."""
-    edits = {f"{crate_of_edit(f)}/{f.split('/')[-1]}" for f in TRACKED if f.endswith(".edit")}
-    named = {line.split()[0] for line in read("checks/edits/goals.txt").splitlines()}
-    yield from (f"checks/edits/goals.txt: no goal is named for {it}" for it in sorted(edits - named))
-    yield from (f"checks/edits/goals.txt: there is no edit {it}" for it in sorted(named - edits))
-
-
 def format_faults():
     """Files that the gate would refuse since they aren't formatted."""
     start_page = subprocess.run(["rt", "doc"], capture_output=True, text=True, check=True).stdout.split("\n")[0]
@@ -299,7 +290,7 @@ def main():
     if sys.argv[1:] == ["--map"]:
         print(pages.the_map(), end="")
         return 0
-    faults = [*source_faults(), *promise_faults(), *witness_faults(), *link_faults(), *quote_faults(), *edit_faults(), *goal_faults(), *pages.faults(), *words.faults(), *format_faults()]
+    faults = [*source_faults(), *promise_faults(), *witness_faults(), *link_faults(), *quote_faults(), *edit.faults(), *ledger.faults(), *pages.faults(), *words.faults(), *format_faults()]
     print("\n".join(faults) or "layout: every file is in order")
     return 1 if faults else 0
 

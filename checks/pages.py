@@ -22,6 +22,7 @@ KNOWN = {
     "HANDLES": "which handles to the outside the gate allows: none",
     "LICENSE": "the licence",
     "NOTICE": "what was taken from the ported crate",
+    "checks/ledger.tsv": "what shows each named case of the specification: clauses, computed rows, tests and wrong bodies",
     "crates.txt": "the crates and what each stands on",
     "CHANGELOG.md": "what each version brings, changes and removes",
     "CITATION.cff": "how to cite the software",
@@ -42,7 +43,7 @@ HEAD = """# Map
 
 - `proofs/MODULE/FUNCTION/Answers.antt`: the goals of a function that need help; `Invariants.antt`: what its loops keep
 - other folders of `proofs/`: lemmas by concern, and the rows that the prover computes in `WorkedRows`
-- `must-fail/`: wrong bodies that the gate tries; `checks/edits/CRATE/`: those that `checks/edits.py` tries
+- `checks/edits/CRATE/`: wrong bodies, which `checks/edits.py` tries
 
 """
 

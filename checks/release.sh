@@ -44,6 +44,7 @@ proved() {
         [ -z "$(git status --porcelain --untracked-files=no)" ] || fail "the tree has changed since its commit, which a release names"
         checks/build.py foalmorrow
         checks/callers.sh --build
+        checks/edits.py --named || fail "a wrong body of the specification isn't refused"
     fi
     [ -f "$archive" ] && [ -x "$tool" ] || fail "the library or the program isn't built: checks/callers.sh --build, checks/build.py foalmorrow"
     checks/proved.py --count vortex_ffi foalmorrow > "$work/counts.json"

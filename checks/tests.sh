@@ -2,8 +2,10 @@
 # SPDX-License-Identifier: Apache-2.0
 # Runs every test of every crate by the toolchain's trial run, which proves nothing, several crates side by side.
 # usage: checks/tests.sh [CRATE..]    by default all crates that have tests; RT_JOBS says how many at a time, by default one a processor
+#        checks/tests.sh --prove      the gate, which proves everything first, and what checks/gate.py runs behind it
 set -u
 cd "$(dirname "$0")/.." || exit 1
+[ "$*" = --prove ] && exec checks/gate.py
 top="$PWD"
 # The frames of a trial run are larger than those of the tests as the gate builds them.
 ulimit -s 65536 || exit 1

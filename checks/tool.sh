@@ -154,6 +154,45 @@ case_of "a folder in place of a Parquet file" ended 66
 "$program" prune "$orders" "qty > 9" > /dev/full 2> "$work/reasons"
 echo "$?" > "$work/status"
 case_of "an answer to a full disk" ended 1 "reasons:could not be written"
+# One row group, with a column of each logical type.
+PYTHONPATH=callers/python PYTHONDONTWRITEBYTECODE=1 python3 - "$work/typed.parquet" << 'PYTHON'
+import struct, sys
+from tests.systems.parquet_writer import I32, Raw, thrift
+
+naive = Raw(thrift((8, Raw(thrift((1, False), (2, Raw(thrift((3, Raw(thrift()))))))))))
+decimals = lambda scale: ((6, I32(5)), (7, I32(scale)), (8, I32(9)))
+columns = [
+    (1, b"day", ((6, I32(6)),), -1, 11016), (1, b"far", ((6, I32(6)),), -2147483648, 2147483647), (1, b"clock", ((6, I32(7)),), 0, 86399999),
+    (1, b"late", ((6, I32(7)),), -1, 86400000), (2, b"at", ((6, I32(10)),), -1, 1500000), (2, b"naive", ((10, naive),), 0, 2**63 - 1),
+    (2, b"price", decimals(2), -5, 12345), (2, b"whole", decimals(0), -7, 7), (2, b"qty", (), -7, 7),
+]
+value = lambda kind, number: number.to_bytes(4 * kind, "little", signed=True)
+
+def chunk(kind, name, _, least, greatest):
+    told = Raw(thrift((3, 0), (5, value(kind, greatest)), (6, value(kind, least)), (7, True), (8, True)))
+    meta = thrift((1, I32(kind)), (2, [I32(0)]), (3, [name]), (4, I32(0)), (5, 3), (6, 0), (7, 0), (9, 4), (12, told))
+    return Raw(thrift((2, 4), (3, Raw(meta))))
+
+schema = [Raw(thrift((4, b"root"), (5, I32(len(columns)))))]
+schema += [Raw(thrift((1, I32(kind)), (3, I32(0)), (4, name), *more)) for kind, name, more, _, _ in columns]
+group = Raw(thrift((1, [chunk(*it) for it in columns]), (2, 0), (3, 3)))
+footer = thrift((1, I32(1)), (2, schema), (3, 3), (4, [group]), (7, [Raw(thrift((1, Raw(thrift())))) for _ in columns]))
+with open(sys.argv[1], "wb") as file:
+    file.write(b"PAR1" + footer + struct.pack("<I", len(footer)) + b"PAR1")
+PYTHON
+typed=(
+    "answer:  day: min 1969-12-31 max 2000-02-29 null_count 0" "answer:  far: min day -2147483648 max day 2147483647 null_count 0"
+    "answer:  clock: min 00:00:00 max 23:59:59.999 null_count 0" "answer:  late: min -1 max 86400000 null_count 0"
+    "answer:  at: min 1969-12-31 23:59:59.999999Z max 1970-01-01 00:00:01.5Z null_count 0"
+    "answer:  naive: min 1970-01-01 00:00:00 max 2262-04-11 23:47:16.854775807 null_count 0"
+    "answer:  price: min -0.05 max 123.45 null_count 0" "answer:  whole: min -7 max 7 null_count 0" "answer:  qty: min -7 max 7 null_count 0"
+)
+ran show "$work/typed.parquet"
+case_of "values of logical types that are shown" ended 0 "${typed[@]}"
+ran prune --explain "$work/typed.parquet" "price > 123.45 AND day < '2000-03-01'"
+case_of "values of logical types that are explained" ended 0 "reasons:  price: min -0.05 max 123.45 null_count 0" "reasons:  day: min 1969-12-31 max 2000-02-29 null_count 0" "answer:0 skip 0..3"
+ran prune "$work/typed.parquet" "1 = 1 OR day > 5"
+case_of "a number beside a date" ended 2 "reasons:$work/typed.parquet: "
 ran show "$orders"
 case_of "row groups that are shown" ended 0 "answer:1: 5 rows" "answer:  name: min \"carl\" max \"dora\" null_count 0" "answer:left out: parts: it has a list"
 
