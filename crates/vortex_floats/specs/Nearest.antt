@@ -1,9 +1,10 @@
 -- The float that is nearest to a number.
-use Rattle.std.specs.Prelude.{◌≡◌, ℕ, ◌++◌, List, Option, Some, None, MatchOption, codes, decimal, if◌then◌else◌}
+use Rattle.std.specs.Prelude.{◌≡◌, ℕ, ◌++◌, List, Option, Some, None, MatchOption, codes, decimal, option_map, if◌then◌else◌}
 use Rattle.std.specs.Fmt.{signed_decimal}
 use Rattle.std.specs.Float.Ieee.{Float, Format, binary32, binary64, eq, of_bits}
 use Rattle.std.specs.Float.Parse.{parse_float}
 use Rattle.vortex_floats.specs.Cells.{SaysOf, compared}
+use Rattle.vortex_literals.specs.Floats.{float_bits, nan64}
 use Rattle.vortex_logical.specs.declared.comparison.Comparison.{Comparison}
 use Rattle.vortex_logical.specs.declared.exact.Exact.{Exact}
 use Rattle.vortex_logical.specs.declared.float_test.FloatTest.{FloatTest}
@@ -28,7 +29,17 @@ single_of text = single_if (parse_float binary32 text) (parse_float binary64 tex
 abbrev pub AreBits : Format → Option Float → Option ℕ → Type 0
 AreBits f x found = MatchOption found (x ≡ None) (λ b. x ≡ Some (of_bits f b))
 
+-- the NaN of 32 bits that stands for all
+abbrev pub nan32 : ℕ
+nan32 = 2_143_289_344
+
 -- the bits of the nearest float, where the type has one that engines agree on
+abbrev pub nearest : FloatType → Exact → Option ℕ
+nearest F16 x = None
+nearest F32 x = option_map (float_bits binary32 nan32) (single_of (number_text x))
+nearest F64 x = option_map (float_bits binary64 nan64) (parse_float binary64 (number_text x))
+
+-- these are the bits of the nearest float
 abbrev pub AreNearest : FloatType → Exact → Option ℕ → Type 0
 AreNearest F16 x found = found ≡ None
 AreNearest F32 x found = AreBits binary32 (single_of (number_text x)) found

@@ -1,8 +1,9 @@
 //! The float that is nearest to a number.
-ghost use Rattle.std.specs.Prelude.{◌≡◌, IfOk, IfSome};
+ghost use Rattle.std.specs.Prelude.{◌≡◌, IfOk, IfSome, option_map};
 ghost use Rattle.std.specs.Float.Ieee.{binary32, of_bits};
 ghost use Rattle.std.specs.String.{string_bytes};
 ghost use Rattle.vortex_floats.specs.Nearest as spec;
+ghost use Rattle.vortex_literals.specs.Floats.{float_bits};
 
 use crate::cells::compare_cells;
 use std::alloc::{AllocError, Global};
@@ -22,7 +23,8 @@ fn number_text(alloc: Global, number: Exact) -> Result<String, AllocError>
 
 // Returns the bits of a float, or those of one NaN.
 fn bits_of(number: f32) -> u64
-    ensures { of_bits binary32 result ≡ number }
+    ensures float { of_bits binary32 result ≡ number }
+    ensures bits { result ≡ float_bits binary32 spec.nan32 number }
 {
     if number.is_nan() {
         return 0x7FC0_0000;
@@ -33,7 +35,9 @@ fn bits_of(number: f32) -> u64
 // Returns the float of 32 bits that is nearest to the number of a text, if the one of 64 bits is
 // the same number: engines that round to 64 bits first say the same.
 fn nearest_single(text: &[u8]) -> Option<u64>
-    ensures { spec.AreBits binary32 (spec.single_of text.now) result }
+    ensures float { spec.AreBits binary32 (spec.single_of text.now) result }
+    ensures bits {
+        result ≡ option_map (float_bits binary32 spec.nan32) (spec.single_of text.now) }
 {
     match (
         fast_float::parse::<f32, _>(text),
@@ -47,7 +51,8 @@ fn nearest_single(text: &[u8]) -> Option<u64>
 /// Returns the bits of the float that is nearest to a number. `None` for floats of 16 bits, and for
 /// those of 32 bits where the nearest of 64 bits is another number, as of 0.1.
 pub fn nearest(alloc: Global, float: FloatType, number: Exact) -> Result<Option<u64>, AllocError>
-    ensures { IfOk result (spec.AreNearest float number) }
+    ensures value { IfOk result (λ found. found ≡ spec.nearest float number) }
+    ensures float { IfOk result (spec.AreNearest float number) }
 {
     let text = number_text(alloc, number)?;
     match float {

@@ -1,4 +1,5 @@
 pub mod Dates
+pub mod Floats
 pub mod Clocks
 pub mod Numbers
 pub mod Intervals

@@ -10,8 +10,8 @@ one_nan nan h = refl
 one_nan (inf s) h = cc
 one_nan (fin s m e) h = cc
 
-pub returns-then-is_nan : goal.returns-then-is_nan
-returns-then-is_nan c = nan_is binary32 0x7FC0_0000 (omega arith) ∙ one_nan c.args.number (sym c.is_nan.ensures.value ∙ c.if-is_nan.true)
+pub returns-then-is_nan-clause-float : goal.returns-then-is_nan-clause-float
+returns-then-is_nan-clause-float c = nan_is binary32 0x7FC0_0000 (omega arith) ∙ one_nan c.args.number (sym c.is_nan.ensures.value ∙ c.if-is_nan.true)
 
-pub returns : goal.returns
-returns c = let f : T (fits binary32 c.args.number) = search rules in ap (of_bits binary32) c.from.ensures ∙ of_bits-to_bits binary32 c.args.number f
+pub returns-clause-float : goal.returns-clause-float
+returns-clause-float c = let f : T (fits binary32 c.args.number) = search rules in ap (of_bits binary32) c.from.ensures ∙ of_bits-to_bits binary32 c.args.number f
