@@ -1,5 +1,7 @@
 -- The worked rows, by computing.
-use Rattle.std.proofs.Common.{ℕ, [], ap, refl}
+use Rattle.std.proofs.Common.{◌≡◌, ◌||◌, ℕ, List, [], ap, bytes_eq, false, refl, true}
+use Rattle.vortex_base.specs.Data.Scopes.{bytes_eq_is_exact}
+use Rattle.vortex_sql.specs.Lowering.{leaf_name}
 use Rattle.std.specs.Prelude.{Ok, Option, Some, pos}
 use Rattle.vortex_expr.specs.declared.scalar_fn.Operator.TheVariants as operator
 use Rattle.vortex_logical.specs.Meaning.{Fraction}
@@ -9,7 +11,7 @@ use Rattle.vortex_logical.specs.declared.logical_type.ExactKind.TheVariants.{Clo
 use Rattle.vortex_sql.specs.Readings.{Reading, any_of, compare, compare_typed, distinct_typed, joined_by, with_member}
 use Rattle.vortex_sql.specs.Typing.{scaled, typed_text}
 use Rattle.vortex_sql.specs.declared.syntax.tree.Operand.{Operand}
-use Rattle.vortex_sql.specs.Worked.{clock, d, dated, m, t, z, ReadingExamples, OtherReadings, OrderExamples, TruthExamples, TextReadings, TypedReadings, TypedTruths, PatternExamples}
+use Rattle.vortex_sql.specs.Worked.{called, clock, d, dated, m, t, z, ReadingExamples, OtherReadings, OrderExamples, TruthExamples, TextReadings, TypedReadings, TypedTruths, PatternExamples, LeafNames}
 
 pub readings : ReadingExamples
 readings = record {
@@ -262,4 +264,22 @@ text_readings = record {
   timestamp = λ h. ap (by_clock comparison.Gte t 9) h;
   instant = λ h. ap by_instant h;
   time = λ h. ap by_time h;
+}
+
+same_bytes : (n : List ℕ) → bytes_eq n n ≡ true
+same_bytes n = (bytes_eq_is_exact n n).1 refl
+
+pub leaf_names : LeafNames
+leaf_names = record {
+  name = refl;
+  past_end = refl;
+  turned = refl;
+  behind = refl;
+  taken = ap (λ b. (b || false) || false) (same_bytes (leaf_name called (0, 3)));
+  no_leaf = refl;
+  fit = refl;
+  no_truth = refl;
+  other_type = refl;
+  no_column = refl;
+  statistic = refl;
 }

@@ -1,5 +1,6 @@
--- How a condition of SQL is said by an expression over a schemachema, and what it means if each leaf that isn't read has a truth of its own.
-use Rattle.std.specs.Prelude.{◌≡◌, ℕ, ◌+◌, ◌++◌, Bool, true, false, ◌||◌, not as not_b, Option, Some, None, List, [], ◌∷◌, Result, Ok, Err, IsTrue, is_none, length, map}
+-- How a condition of SQL is said by an expression over a schema, and what it means if each leaf that isn't read has a truth of its own.
+use Rattle.std.specs.Prelude.{◌≡◌, ℕ, ◌+◌, ◌++◌, Bool, true, false, ◌||◌, not as not_b, Option, Some, None, List, [], ◌∷◌, Result, Ok, Err, IsTrue, codes, decimal, is_none, length, map}
+use Rattle.std.specs.Str.Lossy.{utf8_lossy}
 use lib.Pointwise.{pointwise}
 use Rattle.vortex_base.specs.declared.dtype.DType.{DType}
 use Rattle.vortex_base.specs.declared.error.BaseError.{BaseError}
@@ -12,6 +13,7 @@ use Rattle.vortex_expr.specs.Trees.Tree.{Tree, Place, column, binary, is_null, i
 use Rattle.vortex_sql.specs.declared.syntax.tree.Leaf.{Leaf}
 use Rattle.vortex_sql.specs.declared.syntax.tree.Condition.{Condition}
 use Rattle.vortex_sql.specs.declared.syntax.tree.Condition.TheVariants.{Leaf as Leaf', Not', And', Or', IsNull', IsTrue', IsFalse'}
+use Rattle.vortex_sql.specs.Parsing.Places.{bytes_between}
 use Rattle.vortex_sql.specs.Schemas.{SchemaData}
 use Rattle.vortex_sql.specs.Sql.{test_truth}
 use Rattle.vortex_sql.specs.Readings.{Reading, reading, bool_or_null, truth_literal}
@@ -102,6 +104,18 @@ truth_on s row f (Or' p x q y) = either (truth_on s row f x) (truth_on s row f y
 truth_on s row f (IsNull' p x) = Some (is_none (truth_on s row f x))
 truth_on s row f (IsTrue' p x) = Some (is_known_as true (truth_on s row f x))
 truth_on s row f (IsFalse' p x) = Some (is_known_as false (truth_on s row f x))
+
+-- ---- the columns of the leaves that aren't read
+
+-- where a leaf begins, and its text
+abbrev pub leaf_name : List ℕ → ℕ × ℕ → List ℕ
+leaf_name text (start, end) = decimal start ++ (codes ": " ++ utf8_lossy (bytes_between text start end))
+
+abbrev pub leaf_column : List ℕ → ℕ × ℕ → Named
+leaf_column text span = (leaf_name text span, bool_or_null)
+
+abbrev pub leaf_columns : List ℕ → List (ℕ × ℕ) → List Named
+leaf_columns text spans = map (leaf_column text) spans
 
 -- ---- types
 

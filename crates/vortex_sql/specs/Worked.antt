@@ -1,5 +1,6 @@
 -- Worked rows of conditions of SQL.
-use Rattle.std.specs.Prelude.{◌≡◌, ℕ, ℤ, pos, negsuc, Bool, true, false, Option, Some, None, List, [], ◌∷◌, Err, codes}
+use Rattle.std.specs.Prelude.{◌≡◌, ℕ, ℤ, pos, negsuc, Bool, true, false, Option, Some, None, List, [], ◌∷◌, ◌++◌, Err, codes, decimal}
+use Rattle.std.specs.Str.Lossy.{utf8_lossy}
 use Rattle.std.specs.declared.cmp.Ordering.TheVariants.{Less, Equal, Greater}
 use Rattle.vortex_base.specs.declared.types.Nullability.TheVariants.{Nullable}
 use Rattle.vortex_base.specs.declared.types.PType.TheVariants as ptype
@@ -9,10 +10,11 @@ use Rattle.vortex_base.specs.declared.pvalue.PValue.TheVariants as number
 use Rattle.vortex_base.specs.declared.scalar_value.ScalarValue.{ScalarValue}
 use Rattle.vortex_base.specs.declared.scalar_value.ScalarValue.TheVariants as value
 use Rattle.vortex_base.specs.Data.Scalars.{Constant}
-use Rattle.vortex_base.specs.Data.Scopes.{Named}
+use Rattle.vortex_base.specs.Data.Scopes.{Named, has_duplicate}
+use Rattle.vortex_base.specs.declared.aggregate.AggregateFnRef.TheVariants as aggregate
 use Rattle.vortex_expr.specs.declared.scalar_fn.Operator.{Operator}
 use Rattle.vortex_expr.specs.declared.scalar_fn.Operator.TheVariants as operator
-use Rattle.vortex_expr.specs.Trees.Tree.{Tree, Place, binary, column, literal, is_null, is_not_null}
+use Rattle.vortex_expr.specs.Trees.Tree.{Tree, Place, binary, column, literal, is_null, is_not_null, stat}
 use Rattle.vortex_sql.specs.declared.fault.Fault.TheVariants.{Misfit}
 use Rattle.vortex_logical.specs.declared.comparison.Comparison.{Comparison}
 use Rattle.vortex_logical.specs.declared.comparison.Comparison.TheVariants.{Eq, NotEq, Gt, Gte, Lt, Lte}
@@ -21,6 +23,8 @@ use Rattle.vortex_logical.specs.declared.logical_type.ExactKind.TheVariants as k
 use Rattle.vortex_logical.specs.declared.logical_type.LogicalType.TheVariants as logical
 use Rattle.vortex_logical.specs.declared.time_unit.TimeUnit.TheVariants as unit
 use Rattle.vortex_logical.specs.Meaning.{over}
+use Rattle.vortex_sql.specs.declared.syntax.tree.Condition.{Condition}
+use Rattle.vortex_sql.specs.declared.syntax.tree.Condition.TheVariants.{Leaf as Leaf'}
 use Rattle.vortex_sql.specs.declared.syntax.tree.Escape.TheVariants as escape
 use Rattle.vortex_sql.specs.declared.syntax.tree.Operand.{Operand}
 use Rattle.vortex_sql.specs.declared.syntax.tree.Operand.TheVariants.{Column, Null, Truth, Exact, Text, Binary, Other}
@@ -28,8 +32,9 @@ use Rattle.vortex_sql.specs.declared.syntax.tree.Test.{Test}
 use Rattle.vortex_sql.specs.declared.syntax.tree.Test.TheVariants as test
 use Rattle.vortex_sql.specs.Sql as sql
 use Rattle.vortex_sql.specs.Sql.{item_cmp, distinct, flipped, test_truth, pattern_in}
-use Rattle.vortex_sql.specs.Readings.{Reading, said, unread, reading, truth_literal}
-use Rattle.vortex_sql.specs.Lowering.{is_known_as}
+use Rattle.vortex_sql.specs.Readings.{Reading, bool_or_null, said, unread, reading, truth_literal}
+use Rattle.vortex_sql.specs.Lowering.{is_known_as, leaf_column, leaf_name}
+use Rattle.vortex_sql.specs.Refusals.{is_fit, wide_scope}
 use Rattle.vortex_sql.specs.Schemas.{SchemaData, plain_schema}
 use Rattle.vortex_sql.specs.Typing.{are_same_cells, beside, typed_as}
 use Rattle.vortex_logical.specs.declared.decimal.DecimalDType.{DecimalDType}
@@ -385,3 +390,28 @@ pub record TypedTruths : Type 0 where
   pub text_beside_number : beside dated n (Text day_text) ≡ Text day_text
   pub number_beside_column : beside dated d (Integer (pos 1)) ≡ Integer (pos 1)
   pub text_beside_decimal : (x : DecimalDType) → typed_as (Some (logical.Decimal x)) (Text day_text) ≡ Other
+
+-- ---- the columns of the leaves that aren't read
+
+abbrev pub call : Condition
+call = Leaf' (record { start = 0; end = 3; test = test.Other })
+
+abbrev pub called : List ℕ
+called = codes "f()"
+
+-- a column that has the name of the leaf
+abbrev pub taking : SchemaData
+taking = plain_schema ((leaf_name called (0, 3), u8) ∷ [])
+
+pub record LeafNames : Type 0 where
+  pub name : leaf_column (codes "a = f(x)") (4, 8) ≡ (decimal 4 ++ (codes ": " ++ utf8_lossy (codes "f(x)")), bool_or_null)
+  pub past_end : leaf_name (codes "abc") (2, 9) ≡ decimal 2 ++ (codes ": " ++ utf8_lossy [])
+  pub turned : leaf_name (codes "abc") (3, 2) ≡ decimal 3 ++ (codes ": " ++ utf8_lossy [])
+  pub behind : wide_scope called schema call ≡ scope ++ (leaf_name called (0, 3), bool_or_null) ∷ []
+  pub taken : has_duplicate (wide_scope called taking call) ≡ true
+  pub no_leaf : wide_scope called taking (Leaf' (record { start = 0; end = 3; test = test.Truth (Truth true) })) ≡ taking.scope
+  pub fit : is_fit (here 1 bool_or_null) scope ≡ true
+  pub no_truth : is_fit (here 0 u8) scope ≡ false
+  pub other_type : is_fit (here 0 bool_or_null) scope ≡ false
+  pub no_column : is_fit (here 4 bool_or_null) scope ≡ false
+  pub statistic : is_fit (is_not_null (stat aggregate.Min (here 0 u8))) scope ≡ false

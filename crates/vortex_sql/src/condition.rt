@@ -1,12 +1,12 @@
 //! The text of a condition as a predicate over a scope that has a column for each leaf that isn't
 //! read.
-ghost use Rattle.std.specs.Prelude.{◌≡◌, ◌++◌, ◌∷◌, [], List, IfErr, IfOk, IsTrue, false, length, map};
-ghost use Rattle.vortex_base.specs.Data.Scopes.{Named, named_columns};
+ghost use Rattle.std.specs.Prelude.{◌≡◌, ◌++◌, ◌∷◌, [], IfErr, IfOk, IsTrue, false, length, map};
+ghost use Rattle.std.specs.String.{string_bytes};
+ghost use Rattle.vortex_base.specs.Data.Scopes.{IsScope, named_columns};
 ghost use Rattle.vortex_expr.specs.Meanings.Fitting.{fits_scope};
 ghost use Rattle.vortex_expr.specs.Trees.Tree.{is_plain};
 ghost use Rattle.vortex_sql.specs.Lowering as spec;
-ghost use Rattle.vortex_sql.specs.Readings.{bool_or_null};
-ghost use Rattle.vortex_sql.specs.Refusals.{IsOfName, IsSchemaRefusal, IsTextRefusal, misfits};
+ghost use Rattle.vortex_sql.specs.Refusals.{IsNameRefusal, IsSchemaRefusal, IsTextRefusal, is_fit, misfits};
 ghost use Rattle.vortex_sql.specs.Parsing.Joining.{Joins, ands};
 ghost use Rattle.vortex_sql.specs.Parsing.Naming.{AreNamed};
 ghost use Rattle.vortex_sql.specs.Parsing.Places.{Ascends, leaves};
@@ -15,10 +15,10 @@ use crate::error::SqlError;
 use crate::lower::{Said, lower};
 use crate::schema::Schema;
 use crate::syntax::parse::{Names, parse};
+use crate::syntax::token::between;
 use crate::syntax::tree::Condition;
-use std::alloc::Global;
+use std::alloc::{AllocError, Global};
 use vortex_base::dtype::DType;
-use vortex_base::error::BaseError;
 use vortex_base::scope::Scope;
 use vortex_base::types::Nullability;
 use vortex_expr::bound_expression::BoundExpression;
@@ -37,22 +37,9 @@ pub struct Predicate {
     pub opaque: Vec<(usize, usize)>,
 }
 
-impl From<BaseError> for SqlError {
-    ghost use Rattle.vortex_sql.specs.Refusals.{IsOfName};
-
-    ghost from_gives = { λ _ s. IsOfName s };
-
-    fn from(e: BaseError) -> SqlError {
-        match e {
-            BaseError::Memory(_) => SqlError::Memory,
-            _ => SqlError::Name,
-        }
-    }
-}
-
-fn columns_of(alloc: Global, scope: &Scope) -> Result<Vec<(String, DType)>, SqlError>
+fn columns_of(alloc: Global, scope: &Scope) -> Result<Vec<(String, DType)>, AllocError>
     ensures read { IfOk result (λ columns. named_columns columns.items ≡ scope.now) }
-    ensures refused { IfErr result IsOfName }
+    ensures is_scope { IsScope scope.now }
 {
     let mut columns = Vec::new(alloc);
     for place in 0..scope.len() {
@@ -64,28 +51,21 @@ fn columns_of(alloc: Global, scope: &Scope) -> Result<Vec<(String, DType)>, SqlE
 
 // Returns the name of a leaf's column: where the leaf begins, and its text. So no two have one
 // name.
-fn name_of(alloc: Global, text: &str, span: (usize, usize)) -> Result<String, SqlError>
-    ensures { IfErr result IsOfName }
+fn name_of(alloc: Global, text: &str, span: (usize, usize)) -> Result<String, AllocError>
+    ensures { IfOk result (λ name. string_bytes name ≡ spec.leaf_name text.now span) }
 {
     let (start, end) = span;
-    let leaf = match text.as_bytes().get(start..end) {
-        Some(bytes) => bytes,
-        None => &[],
-    };
-    match str::from_utf8(leaf) {
-        Ok(leaf) => Ok(format!(in alloc; "{start}: {leaf}")?),
-        Err(_) => Err(SqlError::Name),
-    }
+    let leaf = String::from_utf8_lossy(alloc, between(text.as_bytes(), start, end))?;
+    format!(in alloc; "{start}: {leaf}")
 }
 
 fn opaque_columns(
     alloc: Global,
     text: &str,
     opaque: &[(usize, usize)],
-) -> Result<Vec<(String, DType)>, SqlError>
-    ensures typed { IfOk result (λ columns.
-        spec.types_of (named_columns columns.items) ≡ map (λ span. bool_or_null) opaque.now) }
-    ensures refused { IfErr result IsOfName }
+) -> Result<Vec<(String, DType)>, AllocError>
+    ensures { IfOk result (λ columns.
+        named_columns columns.items ≡ spec.leaf_columns text.now opaque.now) }
 {
     let mut columns = Vec::new(alloc);
     for span in opaque {
@@ -101,20 +81,26 @@ fn widened(
     scope: &Scope,
     opaque: &[(usize, usize)],
 ) -> Result<Scope, SqlError>
-    ensures made { IfOk result (λ wide. (more : List Named) × (wide ≡ scope.now ++ more)
-        × (spec.types_of more ≡ map (λ span. bool_or_null) opaque.now)) }
-    ensures refused { IfErr result IsOfName }
+    ensures made { IfOk result (λ wide.
+        wide ≡ scope.now ++ spec.leaf_columns text.now opaque.now) }
+    ensures refused { IfErr result
+        (IsNameRefusal (scope.now ++ spec.leaf_columns text.now opaque.now)) }
 {
     let mut columns = columns_of(alloc, scope)?;
     let mut more = opaque_columns(alloc, text, opaque)?;
     columns.append(&mut more)?;
-    Ok(Scope::try_new(columns)?)
+    match Scope::try_new(columns) {
+        Ok(wide) => Ok(wide),
+        Err(_) => Err(SqlError::Name),
+    }
 }
 
 // Tells whether an expression is a plain predicate over a scope.
-fn is_fit(predicate: &BoundExpression, scope: &Scope) -> bool
-    ensures { IsTrue result → IsTrue (fits_scope predicate.now scope.now)
-        × IsTrue (is_plain predicate.now) × IsTrue (spec.is_of_bool predicate.now) }
+fn is_plain_predicate(predicate: &BoundExpression, scope: &Scope) -> bool
+    ensures test { result ≡ is_fit predicate.now scope.now }
+    ensures fits { IsTrue result → IsTrue (fits_scope predicate.now scope.now) }
+    ensures plain { IsTrue result → IsTrue (is_plain predicate.now) }
+    ensures bool { IsTrue result → IsTrue (spec.is_of_bool predicate.now) }
 {
     let is_bool = matches!(predicate.dtype(), DType::Bool(_));
     is_bool && predicate.is_plain() && predicate.fits_scope(scope)
@@ -133,17 +119,17 @@ pub fn over_schema(
     ensures opaque { IfOk result (λ p.
         p.opaque.items ≡ map spec.span_of (spec.opaques schema.now p.condition)) }
     ensures typed { IfOk result (λ p. misfits schema.now p.condition ≡ []) }
-    ensures scope { IfOk result (λ p. (more : List Named) × (p.scope ≡ schema.now.scope ++ more)
-        × (spec.types_of more ≡ map (λ span. bool_or_null) p.opaque.items)) }
+    ensures scope { IfOk result (λ p.
+        p.scope ≡ schema.now.scope ++ spec.leaf_columns text.now p.opaque.items) }
     ensures fits { IfOk result (λ p. IsTrue (fits_scope p.predicate p.scope)) }
     ensures plain { IfOk result (λ p. IsTrue (is_plain p.predicate)) }
     ensures bool { IfOk result (λ p. IsTrue (spec.is_of_bool p.predicate)) }
     // A misfit is the first of the condition.
-    ensures refused { IfErr result (IsSchemaRefusal schema.now condition) }
+    ensures refused { IfErr result (IsSchemaRefusal text.now schema.now condition) }
 {
     let Said { predicate, opaque } = lower(alloc, schema, &condition)?;
     let scope = widened(alloc, text, schema.scope(), &opaque)?;
-    if !is_fit(&predicate, &scope) {
+    if !is_plain_predicate(&predicate, &scope) {
         return Err(SqlError::Name);
     }
     Ok(Predicate {
@@ -172,8 +158,8 @@ pub fn condition(
     ensures opaque { IfOk result (λ p.
         p.opaque.items ≡ map spec.span_of (spec.opaques schema.now p.condition)) }
     ensures typed { IfOk result (λ p. misfits schema.now p.condition ≡ []) }
-    ensures scope { IfOk result (λ p. (more : List Named) × (p.scope ≡ schema.now.scope ++ more)
-        × (spec.types_of more ≡ map (λ span. bool_or_null) p.opaque.items)) }
+    ensures scope { IfOk result (λ p.
+        p.scope ≡ schema.now.scope ++ spec.leaf_columns text.now p.opaque.items) }
     ensures fits { IfOk result (λ p. IsTrue (fits_scope p.predicate p.scope)) }
     ensures plain { IfOk result (λ p. IsTrue (is_plain p.predicate)) }
     ensures bool { IfOk result (λ p. IsTrue (spec.is_of_bool p.predicate)) }

@@ -216,6 +216,8 @@ pub struct Said {
 /// Returns the expression of a condition over the columns of a schema. `Misfit` names the first leaf of which the
 /// types of the operands don't fit, and never comes where there is none.
 pub fn lower(alloc: Global, schema: &Schema, condition: &Condition) -> Result<Said, LowerError>
+    ensures tree { IfOk result (λ r.
+        r.predicate ≡ spec.lowered schema.now (length schema.now.scope) condition.now) }
     ensures says { IfOk result (λ r. spec.Says schema.now condition.now r.predicate) }
     ensures opaque { IfOk result (λ r.
         r.opaque.items ≡ map spec.span_of (spec.opaques schema.now condition.now)) }

@@ -17,5 +17,5 @@ mod part;
 mod predicate;
 pub mod print;
 mod spans;
-mod token;
+pub(crate) mod token;
 pub mod tree;

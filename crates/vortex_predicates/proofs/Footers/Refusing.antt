@@ -50,12 +50,13 @@ name_told own cs count text c (error.LeftOut s e why) places joined h = (c, plac
 name_told own cs count text c (error.Stats f) places joined h = absurd h
 
 pub condition_told : (own : List OwnRule) (cs : List ColumnView) (count : ℕ) (text : List ℕ) (c : Condition) (s : SchemaData) (ls : List Leaf) (e : ConditionError) → Ascends 0 (leaves c) (length text) → Joins text 0 (leaves c) (false ∷ ands c) → IsSchemaFor cs count (mentions c) s ls
-    → IsProvingRefusal own s c e → IsToldOf own cs count text (of_condition e)
+    → IsProvingRefusal own text s c e → IsToldOf own cs count text (of_condition e)
 condition_told own cs count text c s ls (condition.Sql sql.Memory) places joined chosen h = tt
 condition_told own cs count text c s ls (condition.Sql (sql.Syntax f)) places joined chosen h = absurd h
 condition_told own cs count text c s ls (condition.Sql (sql.Misfit b e)) places joined chosen h =
     record { condition = c; schema = s; leaves = ls; chosen = chosen; misfit = record { condition = c; places = places; joined = joined; first = h } }
-condition_told own cs count text c s ls (condition.Sql sql.Name) places joined chosen h = tt
+condition_told own cs count text c s ls (condition.Sql sql.Name) places joined chosen h =
+    record { condition = c; schema = s; leaves = ls; chosen = chosen; taken = record { condition = c; places = places; joined = joined; unnamed = h } }
 condition_told own cs count text c s ls (condition.Stats f) places joined chosen h =
     record { condition = c; schema = s; leaves = ls; chosen = chosen; refused = record { condition = c; places = places; joined = joined; unproved = h } }
 

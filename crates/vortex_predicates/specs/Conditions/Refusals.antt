@@ -21,10 +21,10 @@ pub record IsUnproved (own : List OwnRule) (s : SchemaData) (c : Condition) (f :
   pub says : Says s c predicate
   pub cause : IsRefusal (making_causes own predicate) f
 
--- the condition is refused over the columns of a schema, or its proofs are
-abbrev pub IsProvingRefusal : List OwnRule → SchemaData → Condition → ConditionError → Type 0
-IsProvingRefusal own s c (Sql e) = IsSchemaRefusal s c e
-IsProvingRefusal own s c (Stats f) = IsUnproved own s c f
+-- the condition of a text is refused over the columns of a schema, or its proofs are
+abbrev pub IsProvingRefusal : List OwnRule → List ℕ → SchemaData → Condition → ConditionError → Type 0
+IsProvingRefusal own text s c (Sql e) = IsSchemaRefusal text s c e
+IsProvingRefusal own text s c (Stats f) = IsUnproved own s c f
 
 -- the text is a condition by its leaves and what joins them, whose proofs are refused
 pub record AreProofsRefused (own : List OwnRule) (text : List ℕ) (s : SchemaData) (f : StatsError) : Type 0 where

@@ -21,7 +21,7 @@ use Rattle.vortex_rewrite.specs.Rewriting.Lawful.{OwnRule}
 use Rattle.vortex_zone_map.specs.Zone.{ZoneData, zones_fit}
 use Rattle.vortex_parquet.specs.declared.columns.Leaf.{Leaf}
 use Rattle.vortex_sql.specs.Parsing.Refusals.{IsPlaced}
-use Rattle.vortex_sql.specs.Refusals.{HasMisfit}
+use Rattle.vortex_sql.specs.Refusals.{HasMisfit, HasTakenName}
 use Rattle.vortex_predicates.specs.Conditions.Conditions.{ProvedCondition}
 use Rattle.vortex_predicates.specs.Conditions.Refusals.{AreProofsRefused}
 use Rattle.vortex_predicates.specs.RowGroups.Pruning.{known_zone}
@@ -75,12 +75,20 @@ pub record IsMisfitOf (cs : List ColumnView) (count : ℕ) (text : List ℕ) (st
   pub chosen : IsSchemaFor cs count (mentions condition) schema leaves
   pub misfit : HasMisfit text schema start end
 
--- a text is no condition at this place of it, or one whose types don't fit
+-- the text is a condition over the columns of a file that it names and that are read, of which a leaf has the name of a column
+pub record IsNameTaken (cs : List ColumnView) (count : ℕ) (text : List ℕ) : Type 0 where
+  pub condition : Condition
+  pub schema : SchemaData
+  pub leaves : List Leaf
+  pub chosen : IsSchemaFor cs count (mentions condition) schema leaves
+  pub taken : HasTakenName text schema
+
+-- a text is no condition at this place of it, or one whose types don't fit, or one of which a leaf has the name of a column
 abbrev pub IsSqlRefusal : List ColumnView → ℕ → List ℕ → SqlError → Type 0
 IsSqlRefusal cs count text sql.Memory = ⊥
 IsSqlRefusal cs count text (sql.Syntax e) = IsPlaced (length text) e
 IsSqlRefusal cs count text (sql.Misfit s e) = IsMisfitOf cs count text s e
-IsSqlRefusal cs count text sql.Name = Unit {0}
+IsSqlRefusal cs count text sql.Name = IsNameTaken cs count text
 
 -- the proofs are refused of a condition over the columns that it names and that are read: for memory, or for a rule of the user
 pub record AreProofsOfRefused (own : List OwnRule) (cs : List ColumnView) (count : ℕ) (text : List ℕ) (f : StatsError) : Type 0 where

@@ -114,7 +114,7 @@ impl PruningCondition {
         // has its cause: a rule of the user asked at a node of the condition's predicate or of a
         // form of it.
         ensures refused { let own = ⟦<Rules as OwnRules>⟧.own rules.now in
-            IfErr result (IsProvingRefusal own schema condition) }
+            IfErr result (IsProvingRefusal own text.now schema condition) }
         // By built-in rules a condition is refused for its types or for memory alone.
         ensures memory { rules.now.own.items ≡ [] → IfErr result IsOfTextOrMemory }
     {

@@ -1,6 +1,7 @@
 //! The words and signs of a text.
 ghost use Rattle.std.specs.Prelude.{◌≡◌};
 ghost use Rattle.vortex_sql.specs.Parsing.Naming as spec;
+ghost use Rattle.vortex_sql.specs.Parsing.Places.{bytes_between};
 
 /// The kind of a word or a sign.
 #[derive(Clone, Copy, PartialEq, Eq)]
@@ -114,7 +115,9 @@ fn rest(text: &[u8], from: usize) -> &[u8] {
 }
 
 /// Returns the bytes of a text between two places.
-pub(crate) fn between(text: &[u8], start: usize, end: usize) -> &[u8] {
+pub(crate) fn between(text: &[u8], start: usize, end: usize) -> &[u8]
+    ensures { result.now ≡ bytes_between text.now start end }
+{
     match text.get(start..end) {
         Some(part) => part,
         None => &[],

@@ -1,4 +1,4 @@
-use Rattle.vortex_sql.proofs.WorkedRows.{orders, other_readings, patterns, readings, text_readings, truths, typed_readings, typed_truths}
+use Rattle.vortex_sql.proofs.WorkedRows.{leaf_names, orders, other_readings, patterns, readings, text_readings, truths, typed_readings, typed_truths}
 use Rattle.vortex_sql.proofs.laws.examples_hold.Goals as goal
 
 pub returns : goal.returns
@@ -11,4 +11,5 @@ returns c = record {
   typed = typed_readings;
   typed_texts = text_readings;
   typed_truths = typed_truths;
+  names = leaf_names;
 }

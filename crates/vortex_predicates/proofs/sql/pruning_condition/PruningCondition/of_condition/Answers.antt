@@ -1,6 +1,7 @@
 use Rattle.std.proofs.Common.{map, ap, subst}
 use Rattle.std.proofs.lemmas.Result.{err_from_is_err_and}
 use Rattle.vortex_rewrite.specs.Rewriting.Own.{own_rule, own_rules}
+use Rattle.vortex_sql.proofs.Widened.{columns_behind}
 use Rattle.vortex_sql.specs.Lowering.{Says}
 use Rattle.vortex_sql.specs.declared.syntax.tree.Condition.{Condition}
 use Rattle.vortex_predicates.proofs.Conditions.Pruned.{closed_by, confirms_of, of_bool, proofs_of, refutes_of, says_of}
@@ -13,7 +14,7 @@ invariant_of-result g c =
     let x = c.in_ok-proofs.proofs in
     let h = c.in_ok-sql.ensures in
     let k = c.in_ok-proofs.ensures in (
-      proofs_of c.proofs_tell_of_conditions.ensures c.args.schema sql.scope sql.condition sql.predicate sql.opaque.items x c.len-columns.ensures.is_scope h.scope h.opaque h.says h.fits k.predicate k.right,
+      proofs_of c.proofs_tell_of_conditions.ensures c.args.schema sql.scope sql.condition sql.predicate sql.opaque.items x c.len-columns.ensures.is_scope (columns_behind c.args.text.now c.args.schema.scope sql.opaque.items sql.scope h.scope) h.opaque h.says h.fits k.predicate k.right,
       h.opaque,
     )
 
@@ -24,7 +25,7 @@ returns-clause-refutes g c =
     let h = c.in_ok-sql.ensures in
     let k = c.in_ok-proofs.ensures in
     subst (λ (d : Condition). Refutes c.args.schema d x.falsifier) h.same
-    (refutes_of c.proofs_tell_of_conditions.ensures c.args.schema sql.scope sql.condition sql.predicate sql.opaque.items x c.len-columns.ensures.is_scope h.scope h.opaque h.says h.fits k.predicate k.right)
+    (refutes_of c.proofs_tell_of_conditions.ensures c.args.schema sql.scope sql.condition sql.predicate sql.opaque.items x c.len-columns.ensures.is_scope (columns_behind c.args.text.now c.args.schema.scope sql.opaque.items sql.scope h.scope) h.opaque h.says h.fits k.predicate k.right)
 
 pub returns-clause-confirms : goal.returns-clause-confirms
 returns-clause-confirms g c =
@@ -33,7 +34,7 @@ returns-clause-confirms g c =
     let h = c.in_ok-sql.ensures in
     let k = c.in_ok-proofs.ensures in
     subst (λ (d : Condition). Confirms c.args.schema d x.satisfier) h.same
-    (confirms_of c.proofs_tell_of_conditions.ensures c.args.schema sql.scope sql.condition sql.predicate sql.opaque.items x c.len-columns.ensures.is_scope h.scope h.opaque h.says h.fits k.predicate k.right)
+    (confirms_of c.proofs_tell_of_conditions.ensures c.args.schema sql.scope sql.condition sql.predicate sql.opaque.items x c.len-columns.ensures.is_scope (columns_behind c.args.text.now c.args.schema.scope sql.opaque.items sql.scope h.scope) h.opaque h.says h.fits k.predicate k.right)
 
 pub returns-clause-says : goal.returns-clause-says
 returns-clause-says g c =
@@ -42,7 +43,7 @@ returns-clause-says g c =
     let h = c.in_ok-sql.ensures in
     let k = c.in_ok-proofs.ensures in
     subst (λ (d : Condition). Says c.args.schema d x.predicate) h.same
-    (says_of c.proofs_tell_of_conditions.ensures c.args.schema sql.scope sql.condition sql.predicate sql.opaque.items x c.len-columns.ensures.is_scope h.scope h.opaque h.says h.fits k.predicate k.right)
+    (says_of c.proofs_tell_of_conditions.ensures c.args.schema sql.scope sql.condition sql.predicate sql.opaque.items x c.len-columns.ensures.is_scope (columns_behind c.args.text.now c.args.schema.scope sql.opaque.items sql.scope h.scope) h.opaque h.says h.fits k.predicate k.right)
 
 pub returns-clause-closed : goal.returns-clause-closed
 returns-clause-closed g c = λ none.
