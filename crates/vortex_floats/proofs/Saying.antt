@@ -7,6 +7,7 @@ use Rattle.std.proofs.lemmas.Int.{ints}
 use Rattle.vortex_logical.specs.declared.comparison.Comparison.{Comparison}
 use Rattle.vortex_logical.specs.declared.comparison.Comparison.TheVariants as comparison
 use Rattle.vortex_logical.specs.declared.float_type.FloatType.{FloatType}
+use Rattle.vortex_logical.specs.declared.float_test.FloatTest.{FloatTest}
 use Rattle.vortex_logical.specs.declared.float_type.FloatType.TheVariants.{F16, F32, F64}
 use Rattle.vortex_logical.specs.declared.float_test.NanMeaning.{NanMeaning}
 use Rattle.vortex_logical.specs.declared.float_test.NanMeaning.TheVariants.{Greatest, Ieee}
@@ -14,7 +15,7 @@ use Rattle.vortex_logical.specs.Meaning.{holds}
 use Rattle.vortex_logical.specs.Floats.{bound_of, float_holds, float_test, float_test_holds, ieee_test, infinity_bits, is_nan_bits, key, nan_bits, nan_comparison, sign_bit, signed_key}
 use Rattle.vortex_logical.proofs.FloatTests.{floats_compare, greatest_test_is, ieee_test_is}
 use Rattle.vortex_logical.proofs.Orders.{is_equal, is_greater, is_less}
-use Rattle.vortex_floats.specs.Cells.{CellsStandForFloats, SaysOf, bits_at, cell_test, compared, is_agreed, is_clear, is_told}
+use Rattle.vortex_floats.specs.Cells.{CellsStandForFloats, MeaningsAgree, SaysOf, bits_at, cell_test, compared, is_agreed, is_clear, is_told}
 use Rattle.vortex_floats.proofs.CellKeys.{infinity_below_nan, key_of_infinity, key_of_least, key_of_minus_infinity, key_of_nan_bits, key_of_negative, key_of_size}
 
 -- ---- the number of a finite float
@@ -224,3 +225,8 @@ again_by t b false h =
 
 pub cells_stand : CellsStandForFloats
 cells_stand t b = floats_compare t (bits_at t (key t b)) b ∙ is_equal _ _ (again_by t b (is_nan_bits t b) refl)
+
+pub meanings_agree : MeaningsAgree
+meanings_agree t c b test h n =
+    let says : SaysOf t None c b test = subst (λ (found : Option FloatTest). IfSome found (SaysOf t None c b)) h (compared_says t None c b) in
+    says Greatest tt n ∙ sym (says Ieee tt n)

@@ -6,7 +6,7 @@ use Rattle.vortex_logical.specs.declared.comparison.Comparison.TheVariants as co
 use Rattle.vortex_logical.specs.declared.float_type.FloatType.{FloatType}
 use Rattle.vortex_logical.specs.declared.float_test.FloatTest.{FloatTest}
 use Rattle.vortex_logical.specs.declared.float_test.NanMeaning.{NanMeaning}
-use Rattle.vortex_logical.specs.declared.float_test.NanMeaning.TheVariants.{Ieee}
+use Rattle.vortex_logical.specs.declared.float_test.NanMeaning.TheVariants.{Greatest, Ieee}
 use Rattle.vortex_logical.specs.Floats.{bound_of, float_cmp, float_holds, float_test, float_test_holds, infinity_bits, key, nan_bits, sign_bit}
 
 -- ---- the float of a cell
@@ -65,3 +65,7 @@ compared t m c b = if is_told m c && is_clear t (key t b) then Some (cell_test t
 -- the test says of each cell what the comparison of its float with the float b says, under each meaning of NaN that is allowed
 abbrev pub SaysOf : FloatType → Option NanMeaning → Comparison → ℕ → FloatTest → Type 0
 SaysOf t said c b test = (m : NanMeaning) → Allows said m → (n : ℤ) → float_holds m t c (bits_at t n) b ≡ float_test_holds n test
+
+-- where nothing is said of NaN and there is a test, both meanings say the same of each cell
+abbrev pub MeaningsAgree : Type 0
+MeaningsAgree = (t : FloatType) (c : Comparison) (b : ℕ) (test : FloatTest) → compared t None c b ≡ Some test → (n : ℤ) → float_holds Greatest t c (bits_at t n) b ≡ float_holds Ieee t c (bits_at t n) b

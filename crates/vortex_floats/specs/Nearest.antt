@@ -1,5 +1,5 @@
 -- The float that is nearest to a number.
-use Rattle.std.specs.Prelude.{◌≡◌, ℕ, ◌++◌, List, Option, Some, None, MatchOption, codes, decimal, option_map, if◌then◌else◌}
+use Rattle.std.specs.Prelude.{◌≡◌, ℕ, ℤ, ◌++◌, List, Option, Some, None, MatchOption, codes, decimal, option_map, if◌then◌else◌}
 use Rattle.std.specs.Fmt.{signed_decimal}
 use Rattle.std.specs.Float.Ieee.{Float, Format, binary32, binary64, eq, of_bits}
 use Rattle.std.specs.Float.Parse.{parse_float}
@@ -12,9 +12,12 @@ use Rattle.vortex_logical.specs.declared.float_test.NanMeaning.{NanMeaning}
 use Rattle.vortex_logical.specs.declared.float_type.FloatType.{FloatType}
 use Rattle.vortex_logical.specs.declared.float_type.FloatType.TheVariants.{F16, F32, F64}
 
--- the text of a number, as 123e-2
+-- the text of a number over ten to the scale, as 123e-2
+abbrev pub text_over : (top : ℤ) (scale : ℕ) → List ℕ
+text_over top scale = signed_decimal top ++ (codes "e-" ++ decimal scale)
+
 abbrev pub number_text : Exact → List ℕ
-number_text x = signed_decimal x.top ++ (codes "e-" ++ decimal x.scale)
+number_text x = text_over x.top x.scale
 
 -- a float of 32 bits, if the one of 64 bits is the same number
 abbrev pub single_if : Option Float → Option Float → Option Float
@@ -33,11 +36,14 @@ AreBits f x found = MatchOption found (x ≡ None) (λ b. x ≡ Some (of_bits f 
 abbrev pub nan32 : ℕ
 nan32 = 2_143_289_344
 
--- the bits of the nearest float, where the type has one that engines agree on
+-- the bits of the float that is nearest to a number over ten to the scale, where the type has one that engines agree on
+abbrev pub nearest_over : FloatType → (top : ℤ) (scale : ℕ) → Option ℕ
+nearest_over F16 top scale = None
+nearest_over F32 top scale = option_map (float_bits binary32 nan32) (single_of (text_over top scale))
+nearest_over F64 top scale = option_map (float_bits binary64 nan64) (parse_float binary64 (text_over top scale))
+
 abbrev pub nearest : FloatType → Exact → Option ℕ
-nearest F16 x = None
-nearest F32 x = option_map (float_bits binary32 nan32) (single_of (number_text x))
-nearest F64 x = option_map (float_bits binary64 nan64) (parse_float binary64 (number_text x))
+nearest t x = nearest_over t x.top x.scale
 
 -- these are the bits of the nearest float
 abbrev pub AreNearest : FloatType → Exact → Option ℕ → Type 0

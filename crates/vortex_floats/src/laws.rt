@@ -1,11 +1,16 @@
 //! Laws of this layer, in the words of its definitions. The functions carry them by their
 //! contracts.
-ghost use Rattle.vortex_floats.specs.Cells.{CellsStandForFloats};
+ghost use Rattle.vortex_floats.specs.Cells.{CellsStandForFloats, MeaningsAgree};
 ghost use Rattle.vortex_floats.specs.Worked.{CellExamples, NumberExamples};
 
 /// The cell that holds the whole number of a float stands for that float.
 pub fn cells_stand_for_floats()
     ensures { CellsStandForFloats }
+{}
+
+/// Where nothing is said of NaN, a comparison that is a test says the same under both meanings.
+pub fn meanings_agree()
+    ensures { MeaningsAgree }
 {}
 
 /// The worked rows hold.

@@ -1,4 +1,3 @@
-pub mod Cells
 pub mod Compared
 pub mod Made
 pub mod Members
@@ -6,6 +5,7 @@ pub mod Pairs
 pub mod Parsing
 pub mod Refusing
 pub mod Refuting
+pub mod RowCells
 pub mod Saying
 pub mod Widened
 pub mod WorkedRows

@@ -1,6 +1,6 @@
 -- The expression that is said of a condition means what the condition does.
 use Rattle.std.proofs.Common.{◌≡◌, ℕ, zero, suc, ◌+◌, Bool, true, false, List, [], ◌∷◌, ◌++◌, length, refl, sym, ◌∙◌, ap, subst, arith}
-use Rattle.std.specs.Prelude.{◌≤◌, ◌&&◌, is_some, nat_le, Option, Some, None, Ok, Err, is_none, not as not_b, option_map, slice_get, if◌then◌else◌}
+use Rattle.std.specs.Prelude.{◌≤◌, ◌&&◌, ℤ, IfSome, is_some, nat_le, Option, Some, None, Ok, Err, is_none, not as not_b, option_map, slice_get, if◌then◌else◌}
 use Rattle.std.specs.declared.cmp.Ordering.{Ordering}
 use Rattle.vortex_base.specs.declared.types.Nullability.{Nullability}
 use Rattle.vortex_base.specs.declared.types.Nullability.TheVariants.{NonNullable}
@@ -23,7 +23,16 @@ use Rattle.vortex_expr.specs.Trees.Tree.{Tree, Place, literal, column, binary, l
 use Rattle.vortex_sql.specs.declared.fault.Fault.TheVariants.{Misfit}
 use Rattle.vortex_logical.specs.declared.comparison.Comparison.{Comparison}
 use Rattle.vortex_logical.specs.declared.comparison.Comparison.TheVariants as comparison
+use Rattle.vortex_base.specs.declared.pvalue.PValue.{PValue}
+use Rattle.vortex_floats.specs.Cells.{SaysOf as SaysOfFloat}
+use Rattle.vortex_floats.specs.Cells as readings_of_floats
+use Rattle.vortex_floats.proofs.Saying.{compared_says}
+use Rattle.vortex_logical.specs.declared.float_test.FloatTest.{FloatTest}
+use Rattle.vortex_logical.specs.declared.float_test.NanMeaning.{NanMeaning}
+use Rattle.vortex_logical.specs.declared.float_type.FloatType.{FloatType}
 use Rattle.vortex_logical.specs.declared.logical_type.LogicalType.{LogicalType}
+use Rattle.vortex_sql.specs.declared.cells.Cells.{Cells}
+use Rattle.vortex_sql.specs.declared.cells.Cells.TheVariants.{Values, Exact, Floats}
 use Rattle.vortex_sql.specs.declared.syntax.tree.ExactNumber.{ExactNumber}
 use Rattle.vortex_sql.specs.declared.typing.KindFit.{KindFit}
 use Rattle.vortex_sql.specs.declared.typing.KindFit.TheVariants.{Same, ByZone, Other as OtherKind}
@@ -37,14 +46,14 @@ use Rattle.vortex_sql.specs.declared.syntax.tree.Test.TheVariants as test
 use Rattle.vortex_sql.specs.declared.syntax.tree.Leaf.{Leaf}
 use Rattle.vortex_sql.specs.declared.syntax.tree.Condition.{Condition}
 use Rattle.vortex_sql.specs.declared.syntax.tree.Condition.TheVariants.{Leaf as Leaf', Not', And', Or', IsNull', IsTrue', IsFalse'}
-use Rattle.vortex_sql.specs.Sql.{Item, truth, exact, text, binary as binary_item, item_of, item_cmp, exact_item, compared, compared_on, distinct, liked, pattern_of, within_on, among_on, truth_of, field_value, value_in, test_truth, operator_of, flipped}
-use Rattle.vortex_sql.specs.Numbers.{sized_in}
+use Rattle.vortex_sql.specs.Sql.{Item, truth, exact, float, bits, text, binary as binary_item, item_of, item_holds, item_cmp, exact_item, compared, compared_on, distinct, liked, pattern_of, within_on, among_on, truth_of, field_value, value_in, test_truth, operator_of, flipped}
+use Rattle.vortex_sql.specs.Numbers.{in_type, sized_in}
 use Rattle.vortex_sql.specs.Halves.{joined, first_of, in_turns, paired}
 use Rattle.vortex_sql.specs.Readings as readings
-use Rattle.vortex_sql.specs.Readings.{Reading, Members, said, unread, literal_of, is_whole, whole_literal, exact_reading, exact_test, testing, of_fit, folded, literals, comparing, constant, with_literal, with_place, with_operand, from_place, from_literal, compare, compare_typed, joined_by, truth_literal, as_truth, as_null_test, literal_null_test, null_test, distinct_from, distinct_at, distinct_literals, distinct_from_literal, distinct_typed, distinct_test, between_test, with_member, members_from, any_of, member, like_place, pattern_test, reading}
+use Rattle.vortex_sql.specs.Readings.{Reading, Members, said, unread, literal_of, is_whole, whole_literal, exact_reading, exact_test, testing, of_fit, folded, literals, comparing, constant, exact_literal, in_type_reading, cell_reading, below_reading, float_reading, float_literal, cells_literal, with_literal, with_place, with_operand, from_place, from_literal, compare, compare_typed, joined_by, truth_literal, as_truth, as_null_test, literal_null_test, null_test, distinct_from, distinct_at, distinct_literals, distinct_from_literal, distinct_typed, distinct_test, between_test, with_member, members_from, any_of, member, like_place, pattern_test, reading}
 use Rattle.vortex_sql.specs.Lowering.{leaf_tree, leaf_truth, opaque_tree, lowered, opaques, opaque_if, has_truth_test, is_true_tree, is_false_tree, truth_on, is_known_as, IsRowOf, Says, with_told, told_cell}
-use Rattle.vortex_sql.proofs.Cells.{Told, Holds, told, told-left, told-right, column_holds, same_length}
-use Rattle.vortex_sql.proofs.Compared.{optional_compared, same_items, items_flipped, flipped_compared, exact_compared, text_compared, binary_compared, truth_compared, weakened}
+use Rattle.vortex_sql.proofs.RowCells.{Told, Holds, told, told-left, told-right, column_holds, same_length}
+use Rattle.vortex_sql.proofs.Compared.{cells_of, cells_compared, cell_truth, bounded_truth, float_truth, number_compared, float_compared, same_items, items_flipped, flipped_compared, exact_compared, text_compared, binary_compared, truth_compared, weakened}
 use Rattle.vortex_sql.proofs.Pairs.{one_left}
 
 truth-value : (a : Option Bool) → meanings.truth (truth_value a) ≡ a
@@ -80,6 +89,8 @@ liked-none : (x : Option Item) → liked x None ≡ None
 liked-none None = refl
 liked-none (Some (truth a)) = refl
 liked-none (Some (exact k a)) = refl
+liked-none (Some (float t m a)) = refl
+liked-none (Some (bits a)) = refl
 liked-none (Some (text a)) = refl
 liked-none (Some (binary_item a)) = refl
 
@@ -87,6 +98,8 @@ backslash : (x : Option Item) → pattern_of escape.Backslash x ≡ x
 backslash None = refl
 backslash (Some (truth a)) = refl
 backslash (Some (exact k a)) = refl
+backslash (Some (float t m a)) = refl
+backslash (Some (bits a)) = refl
 backslash (Some (text a)) = refl
 backslash (Some (binary_item a)) = refl
 
@@ -128,7 +141,7 @@ same_answer : (o p : Option (Tree Place)) → answered o ≡ answered p → o �
 same_answer o p h = cc
 
 -- a value of a type of truths is the truth that it stands for
-bool_value : (l : Option LogicalType) (v : Option ScalarValue) (t : DType) → is_bool t ≡ true → is_optional_value v t ≡ true → v ≡ truth_value (truth_of (option_map (item_of l) v))
+bool_value : (l : Cells) (v : Option ScalarValue) (t : DType) → is_bool t ≡ true → is_optional_value v t ≡ true → v ≡ truth_value (truth_of (option_map (item_of l) v))
 bool_value l None t b h = refl
 bool_value l (Some (value.Bool a)) t b h = refl
 bool_value l (Some (value.Primitive a)) (dtype.Bool n) b h = cc
@@ -138,7 +151,7 @@ bool_value l (Some (value.Utf8 a)) t b h = cc
 bool_value l (Some (value.Binary a)) (dtype.Bool n) b h = cc
 bool_value l (Some (value.Binary a)) t b h = cc
 
-text_liked : (l : Option LogicalType) (v : Option ScalarValue) (t : DType) (bs : List ℕ) → is_utf8 t ≡ true → is_optional_value v t ≡ true
+text_liked : (l : Cells) (v : Option ScalarValue) (t : DType) (bs : List ℕ) → is_utf8 t ≡ true → is_optional_value v t ≡ true
     → meanings.liked plain v (Some (value.Utf8 bs)) ≡ liked (option_map (item_of l) v) (Some (text bs))
 text_liked l None t bs b h = refl
 text_liked l (Some (value.Utf8 a)) t bs b h = refl
@@ -149,7 +162,7 @@ text_liked l (Some (value.Primitive a)) t bs b h = cc
 text_liked l (Some (value.Binary a)) (dtype.Utf8 n) bs b h = cc
 text_liked l (Some (value.Binary a)) t bs b h = cc
 
-none_item : (l : Option LogicalType) (v : Option ScalarValue) → is_none v ≡ is_none (option_map (item_of l) v)
+none_item : (l : Cells) (v : Option ScalarValue) → is_none v ≡ is_none (option_map (item_of l) v)
 none_item l None = refl
 none_item l (Some v) = refl
 
@@ -160,7 +173,7 @@ same_field : (f g : Field) → some_field f ≡ some_field g → f ≡ g
 same_field f g h = cc
 
 abbrev placed_field : SchemaData → Place → Field
-placed_field s p = record { place = p; logical = listed (slice_get s.logical p.index) }
+placed_field s p = record { place = p; cells = listed (slice_get s.cells p.index) }
 
 -- the place of a column
 place_at : (s : SchemaData) (o : Option Place) (f : Field) → field_at s o ≡ Some f → o ≡ Some f.place
@@ -168,7 +181,7 @@ place_at s None f h = cc
 place_at s (Some p) f h = ap (λ (g : Field). Some g.place) (same_field (placed_field s p) f h)
 
 -- a column's values as another's, if their cells stand for the same
-same_values : (l m : Option LogicalType) (v : Option ScalarValue) → are_same_cells l m ≡ true → option_map (item_of m) v ≡ option_map (item_of l) v
+same_values : (l m : Cells) (v : Option ScalarValue) → are_same_cells l m ≡ true → option_map (item_of m) v ≡ option_map (item_of l) v
 same_values l m None h = refl
 same_values l m (Some v) h = ap Some (same_items l m v h)
 
@@ -197,144 +210,7 @@ module _ (s : SchemaData) (row more : List Constant) (n : ℕ) (is_row : IsRowOf
   null_says : (b : Option Bool) → b ≡ None → SaysOf (said (truth_literal None)) b
   null_says b h = along (said (truth_literal None)) None b (sym h) (from_said (truth_literal None) None refl)
 
-  -- ---- literals
-
-  whole_is : (x : ExactNumber) (b : Bool) → IsLiteral (whole_literal x b) (Some (exact_item x))
-  whole_is x true = refl
-  whole_is x false = tt
-
-  literal_is : (x : Operand) → IsLiteral (literal_of x) (value_in s row x)
-  literal_is (operand.Column name) = tt
-  literal_is operand.Null = refl
-  literal_is (operand.Truth b) = refl
-  literal_is (operand.Exact x) = whole_is x (is_whole x)
-  literal_is (operand.Text bs) = refl
-  literal_is (operand.Binary bs) = refl
-  literal_is operand.Other = tt
-
-  folded_says : (c : Comparison) (o : Option Ordering) → SaysOf (folded c o) (option_map (meanings.holds (operator_of c)) o)
-  folded_says c (Some o) = from_said (truth_literal (Some (meanings.holds (operator_of c) o))) (Some (meanings.holds (operator_of c) o)) refl
-  folded_says c None = λ e q. cc
-
-  literals_say : (c : Comparison) (i j : Option (Option Item)) (x y : Option Item) → IsLiteral i x → IsLiteral j y → SaysOf (literals c i j) (compared c x y)
-  literals_say c (Some None) j x y h k = null_says (compared c x y) (ap (λ v. compared c v y) (sym h))
-  literals_say c None (Some None) x y h k = null_says (compared c x y) (ap (compared c x) (sym k) ∙ compared-none c x)
-  literals_say c (Some (Some a)) (Some None) x y h k = null_says (compared c x y) (ap (compared c x) (sym k) ∙ compared-none c x)
-  literals_say c (Some (Some a)) (Some (Some b)) x y h k =
-      along (folded c (item_cmp a b)) (compared c (Some a) (Some b)) (compared c x y) (ap (λ v. compared c v (Some b)) h ∙ ap (compared c x) k) (folded_says c (item_cmp a b))
-  literals_say c None None x y h k = λ e q. cc
-  literals_say c None (Some (Some b)) x y h k = λ e q. cc
-  literals_say c (Some (Some a)) None x y h k = λ e q. cc
-
-  known_says : (b : Bool) (c : Option Bool) → Some b ≡ c → SaysOf (said (truth_literal (Some b))) c
-  known_says b c h = along (said (truth_literal (Some b))) (Some b) c h (from_said (truth_literal (Some b)) (Some b) refl)
-
-  distinct_literals_say : (i j : Option (Option Item)) (x y : Option Item) → IsLiteral i x → IsLiteral j y → SaysOf (distinct_literals i j) (distinct x y)
-  distinct_literals_say (Some None) (Some None) x y h k = known_says false (distinct x y) (ap (λ v. distinct v None) h ∙ ap (distinct x) k)
-  distinct_literals_say (Some None) (Some (Some b)) x y h k = known_says true (distinct x y) (ap (λ v. distinct v (Some b)) h ∙ ap (distinct x) k)
-  distinct_literals_say (Some (Some a)) (Some None) x y h k = known_says true (distinct x y) (ap (λ v. distinct v None) h ∙ ap (distinct x) k)
-  distinct_literals_say (Some (Some a)) (Some (Some b)) x y h k =
-      along (folded comparison.NotEq (item_cmp a b)) (distinct (Some a) (Some b)) (distinct x y) (ap (λ v. distinct v (Some b)) h ∙ ap (distinct x) k) (folded_says comparison.NotEq (item_cmp a b))
-  distinct_literals_say None None x y h k = λ e q. cc
-  distinct_literals_say None (Some b) x y h k = λ e q. cc
-  distinct_literals_say (Some None) None x y h k = λ e q. cc
-  distinct_literals_say (Some (Some a)) None x y h k = λ e q. cc
-
-  literal_null_says : (i : Option (Option Item)) (x : Option Item) → IsLiteral i x → SaysOf (literal_null_test i) (Some (is_none x))
-  literal_null_says None x h = λ e q. cc
-  literal_null_says (Some v) x h = known_says (is_none v) (Some (is_none x)) (ap (λ w. Some (is_none w)) h)
-
-  -- ---- comparisons
-
-  -- a column with a literal
-  compared_with : (c d : Comparison) (p : Place) (l : Constant) (b : Option Bool) (h : Holds row (row ++ more) p) → applied (operator_of d) h.value l.value ≡ b
-      → Means (comparing d p (literal l)) b
-  compared_with c d p l b h q = ap truth_value (ap (λ v. applied (operator_of d) v l.value) h.on_whole ∙ q)
-
-  other_kind : (b : Bool) (r : Reading) (v : Option Bool) → SaysOf (of_fit OtherKind b r) v
-  other_kind true r v = λ e p. cc
-  other_kind false r v = λ e p. cc
-
-  exact_says : (c : Comparison) (f : Field) (q : PType) (m : Nullability) (x : ExactNumber) (h : Holds row (row ++ more) f.place) (w : KindFit) → kind_fit (kind_of f.logical) x.kind ≡ w → is_optional_value h.value (dtype.Primitive q m) ≡ true
-      → SaysOf (of_fit w (is_some f.logical) (exact_reading c f q (dtype.Primitive q m) x)) (compared c (option_map (item_of f.logical) h.value) (Some (exact_item x)))
-  exact_says c f q m x h Same fit typed =
-      let r = exact_test c f q x in
-      let b = compared c (option_map (item_of f.logical) h.value) (Some (exact_item x)) in
-      by_test (nat_le x.scale 33) (said (testing r f.place q (dtype.Primitive q m))) unread (λ t. SaysOf t b)
-      (λ short. from_said _ _ (compared_with c r.comparison f.place (record { dtype = dtype.Primitive q m; value = Some (value.Primitive (sized_in q r.number)) }) _ h (exact_compared c f.logical q m x h.value fit typed)))
-      (λ long e p. cc)
-  exact_says c f q m x h ByZone fit typed = λ e p. cc
-  exact_says c f q m x h OtherKind fit typed = other_kind (is_some f.logical) (exact_reading c f q (dtype.Primitive q m) x) (compared c (option_map (item_of f.logical) h.value) (Some (exact_item x)))
-
-  literal_says : (c : Comparison) (f : Field) (t : DType) (y : Operand) (h : Holds row (row ++ more) f.place) → is_optional_value h.value t ≡ true
-      → SaysOf (with_literal c f t y) (compared c (option_map (item_of f.logical) h.value) (value_in s row y))
-  literal_says c f t operand.Other h typed = λ e q. cc
-  literal_says c f t operand.Null h typed = null_says (compared c (option_map (item_of f.logical) h.value) None) (compared-none c (option_map (item_of f.logical) h.value))
-  literal_says c f (dtype.Primitive q m) (operand.Exact x) h typed = exact_says c f q m x h (kind_fit (kind_of f.logical) x.kind) refl typed
-  literal_says c f (dtype.Bool m) (operand.Truth b) h typed =
-      from_said _ _ (compared_with c c f.place (record { dtype = dtype.Bool m; value = Some (value.Bool b) }) _ h (truth_compared c f.logical m b h.value typed))
-  literal_says c f (dtype.Utf8 m) (operand.Text bs) h typed =
-      from_said _ _ (compared_with c c f.place (record { dtype = dtype.Utf8 m; value = Some (value.Utf8 bs) }) _ h (text_compared c f.logical m bs h.value typed))
-  literal_says c f (dtype.Binary m) (operand.Binary bs) h typed =
-      from_said _ _ (compared_with c c f.place (record { dtype = dtype.Binary m; value = Some (value.Binary bs) }) _ h (binary_compared c f.logical m bs h.value typed))
-  literal_says c f t y h typed = λ e q. cc
-
-  -- the column of a name has a value on the row
-  field_holds : (name : List ℕ) (f : Field) → find_field s name ≡ Some f → Holds row (row ++ more) f.place
-  field_holds name f is = column_holds s.scope row more name f.place is_row (place_at s (find_column s.scope name) f is)
-
-  -- a column with another one
-  places_say : (c : Comparison) (f g : Field) (h : Holds row (row ++ more) f.place) (k : Holds row (row ++ more) g.place) → (eq_ignore_nullability f.place.dtype g.place.dtype && are_same_cells f.logical g.logical) ≡ true
-      → Means (comparing c f.place (column g.place)) (compared c (option_map (item_of f.logical) h.value) (option_map (item_of g.logical) k.value))
-  places_say c f g h k both =
-      let tests = both_true _ _ both in
-      let types : as_nullable f.place.dtype ≡ as_nullable g.place.dtype = (dtype_eq_is_exact (as_nullable f.place.dtype) (as_nullable g.place.dtype)).0 tests.0 in
-      let second : is_optional_value k.value (as_nullable f.place.dtype) ≡ true = ap (is_optional_value k.value) types ∙ weakened k.value g.place.dtype k.typed in
-      ap truth_value (ap (λ v. applied (operator_of c) v (cell_value (slice_get (row ++ more) g.place.index))) h.on_whole
-      ∙ ap (applied (operator_of c) h.value) k.on_whole
-      ∙ optional_compared c f.logical h.value k.value f.place.dtype (weakened h.value f.place.dtype h.typed) second
-      ∙ ap (compared c (option_map (item_of f.logical) h.value)) (sym (same_values f.logical g.logical k.value tests.1)))
-
-  unless_same : (b : Option Bool) (are_numbers : Bool) → SaysOf (if are_numbers then unread else Err Misfit) b
-  unless_same b true = from_unread b
-  unless_same b false = λ e q. cc
-
-  place_says : (c : Comparison) (f : Field) (name : List ℕ) (o : Option Field) (h : Holds row (row ++ more) f.place) → find_field s name ≡ o
-      → SaysOf (with_place c f o) (compared c (option_map (item_of f.logical) h.value) (field_value row o))
-  place_says c f name None h is = λ e q. cc
-  place_says c f name (Some g) h is =
-      let k = field_holds name g is in
-      let b = compared c (option_map (item_of f.logical) h.value) (option_map (item_of g.logical) (cell_value (slice_get row g.place.index))) in
-      by_test (eq_ignore_nullability f.place.dtype g.place.dtype && are_same_cells f.logical g.logical) (said (comparing c f.place (column g.place))) (if readings.are_numbers f.place.dtype g.place.dtype then unread else Err Misfit) (λ r. SaysOf r b)
-      (λ same. from_said _ _ (places_say c f g h k same ∙ ap (λ v. truth_value (compared c (option_map (item_of f.logical) h.value) (option_map (item_of g.logical) v))) (sym k.on_row)))
-      (λ other. unless_same b (readings.are_numbers f.place.dtype g.place.dtype))
-
-  operand_says : (c : Comparison) (f : Field) (y : Operand) (h : Holds row (row ++ more) f.place)
-      → SaysOf (with_operand s c f y) (compared c (option_map (item_of f.logical) h.value) (value_in s row y))
-  operand_says c f (operand.Column name) h = place_says c f name (find_field s name) h refl
-  operand_says c f y h = literal_says c f f.place.dtype y h h.typed
-
-  from_place_says : (c : Comparison) (name : List ℕ) (o : Option Field) (y : Operand) → find_field s name ≡ o
-      → SaysOf (from_place s c o y) (compared c (field_value row o) (value_in s row y))
-  from_place_says c name None operand.Null is = null_says (compared c None None) refl
-  from_place_says c name None y is = λ e q. cc
-  from_place_says c name (Some f) y is =
-      let h = field_holds name f is in
-      λ e q. operand_says c f y h e q ∙ ap (λ v. truth_value (compared c (option_map (item_of f.logical) v) (value_in s row y))) (sym h.on_row)
-
-  literal_first : (c : Comparison) (x y : Operand) → SaysOf (from_literal s c x y) (compared c (value_in s row x) (value_in s row y))
-  literal_first c x (operand.Column name) =
-      λ e q. from_place_says (flipped c) name (find_field s name) x refl e q ∙ ap truth_value (flipped_compared c (value_in s row x) (value_in s row (operand.Column name)))
-  literal_first c x y = literals_say c (literal_of x) (literal_of y) (value_in s row x) (value_in s row y) (literal_is x) (literal_is y)
-
-  compare_typed_says : (c : Comparison) (x y : Operand) → SaysOf (compare_typed s c x y) (compared c (value_in s row x) (value_in s row y))
-  compare_typed_says c (operand.Column name) y = from_place_says c name (find_field s name) y refl
-  compare_typed_says c x y = literal_first c x y
-
-  compare_says : (c : Comparison) (x y : Operand) → SaysOf (compare s c x y) (compared_on s row c x y)
-  compare_says c x y = compare_typed_says c (beside s y x) (beside s x y)
-
-  -- ---- other tests
+  -- ---- two parts
 
   both_say : (x y : Tree Place) (a b : Option Bool) → Means x a → Means y b → Means (binary operator.And x y) (both a b)
   both_say x y a b h k = ap (λ v. truth_value (both (meanings.truth v) (meanings.truth (meaning y (row ++ more) n)))) h
@@ -361,6 +237,205 @@ module _ (s : SchemaData) (row more : List Constant) (n : ℕ) (is_row : IsRowOf
   or_says (Ok None) (Ok q) a b h k = λ e q. cc
   or_says (Ok r) (Err f) a b h k = λ e q. cc
   or_says (Err f) q a b h k = λ e q. cc
+
+  -- ---- literals
+
+  whole_is : (x : ExactNumber) (b : Bool) → IsLiteral (whole_literal x b) (Some (exact_item x))
+  whole_is x true = refl
+  whole_is x false = tt
+
+  literal_is : (x : Operand) → IsLiteral (literal_of x) (value_in s row x)
+  literal_is (operand.Column name) = tt
+  literal_is operand.Null = refl
+  literal_is (operand.Truth b) = refl
+  literal_is (operand.Exact x) = whole_is x (is_whole x)
+  literal_is (operand.Float b) = tt
+  literal_is (operand.Text bs) = refl
+  literal_is (operand.Binary bs) = refl
+  literal_is operand.Other = tt
+
+  folded_says : (c : Comparison) (o : Option Ordering) → SaysOf (folded c o) (option_map (meanings.holds (operator_of c)) o)
+  folded_says c (Some o) = from_said (truth_literal (Some (meanings.holds (operator_of c) o))) (Some (meanings.holds (operator_of c) o)) refl
+  folded_says c None = λ e q. cc
+
+  -- a float beside another value has no order
+  order_says : (c : Comparison) (a b : Item) → SaysOf (folded c (item_cmp a b)) (item_holds c a b)
+  order_says c (float t m a) (bits b) = λ e q. cc
+  order_says c (bits a) (float t m b) = λ e q. cc
+  order_says c (truth a) b = folded_says c (item_cmp (truth a) b)
+  order_says c (exact k a) b = folded_says c (item_cmp (exact k a) b)
+  order_says c (text a) b = folded_says c (item_cmp (text a) b)
+  order_says c (binary_item a) b = folded_says c (item_cmp (binary_item a) b)
+  order_says c (float t m a) (truth b) = λ e q. cc
+  order_says c (float t m a) (exact k b) = λ e q. cc
+  order_says c (float t m a) (float u n b) = λ e q. cc
+  order_says c (float t m a) (text b) = λ e q. cc
+  order_says c (float t m a) (binary_item b) = λ e q. cc
+  order_says c (bits a) (truth b) = λ e q. cc
+  order_says c (bits a) (exact k b) = λ e q. cc
+  order_says c (bits a) (bits b) = λ e q. cc
+  order_says c (bits a) (text b) = λ e q. cc
+  order_says c (bits a) (binary_item b) = λ e q. cc
+
+  literals_say : (c : Comparison) (i j : Option (Option Item)) (x y : Option Item) → IsLiteral i x → IsLiteral j y → SaysOf (literals c i j) (compared c x y)
+  literals_say c (Some None) j x y h k = null_says (compared c x y) (ap (λ v. compared c v y) (sym h))
+  literals_say c None (Some None) x y h k = null_says (compared c x y) (ap (compared c x) (sym k) ∙ compared-none c x)
+  literals_say c (Some (Some a)) (Some None) x y h k = null_says (compared c x y) (ap (compared c x) (sym k) ∙ compared-none c x)
+  literals_say c (Some (Some a)) (Some (Some b)) x y h k =
+      along (folded c (item_cmp a b)) (compared c (Some a) (Some b)) (compared c x y) (ap (λ v. compared c v (Some b)) h ∙ ap (compared c x) k) (order_says c a b)
+  literals_say c None None x y h k = λ e q. cc
+  literals_say c None (Some (Some b)) x y h k = λ e q. cc
+  literals_say c (Some (Some a)) None x y h k = λ e q. cc
+
+  known_says : (b : Bool) (c : Option Bool) → Some b ≡ c → SaysOf (said (truth_literal (Some b))) c
+  known_says b c h = along (said (truth_literal (Some b))) (Some b) c h (from_said (truth_literal (Some b)) (Some b) refl)
+
+  distinct_literals_say : (i j : Option (Option Item)) (x y : Option Item) → IsLiteral i x → IsLiteral j y → SaysOf (distinct_literals i j) (distinct x y)
+  distinct_literals_say (Some None) (Some None) x y h k = known_says false (distinct x y) (ap (λ v. distinct v None) h ∙ ap (distinct x) k)
+  distinct_literals_say (Some None) (Some (Some b)) x y h k = known_says true (distinct x y) (ap (λ v. distinct v (Some b)) h ∙ ap (distinct x) k)
+  distinct_literals_say (Some (Some a)) (Some None) x y h k = known_says true (distinct x y) (ap (λ v. distinct v None) h ∙ ap (distinct x) k)
+  distinct_literals_say (Some (Some a)) (Some (Some b)) x y h k =
+      along (folded comparison.NotEq (item_cmp a b)) (distinct (Some a) (Some b)) (distinct x y) (ap (λ v. distinct v (Some b)) h ∙ ap (distinct x) k) (order_says comparison.NotEq a b)
+  distinct_literals_say None None x y h k = λ e q. cc
+  distinct_literals_say None (Some b) x y h k = λ e q. cc
+  distinct_literals_say (Some None) None x y h k = λ e q. cc
+  distinct_literals_say (Some (Some a)) None x y h k = λ e q. cc
+
+  literal_null_says : (i : Option (Option Item)) (x : Option Item) → IsLiteral i x → SaysOf (literal_null_test i) (Some (is_none x))
+  literal_null_says None x h = λ e q. cc
+  literal_null_says (Some v) x h = known_says (is_none v) (Some (is_none x)) (ap (λ w. Some (is_none w)) h)
+
+  -- ---- comparisons
+
+  -- a column with a literal
+  compared_with : (c d : Comparison) (p : Place) (l : Constant) (b : Option Bool) (h : Holds row (row ++ more) p) → applied (operator_of d) h.value l.value ≡ b
+      → Means (comparing d p (literal l)) b
+  compared_with c d p l b h q = ap truth_value (ap (λ v. applied (operator_of d) v l.value) h.on_whole ∙ q)
+
+  other_kind : (b : Bool) (r : Reading) (v : Option Bool) → SaysOf (of_fit OtherKind b r) v
+  other_kind true r v = λ e p. cc
+  other_kind false r v = λ e p. cc
+
+  exact_says : (c : Comparison) (l : Option LogicalType) (p : Place) (q : PType) (m : Nullability) (x : ExactNumber) (h : Holds row (row ++ more) p) (w : KindFit) → kind_fit (kind_of l) x.kind ≡ w → is_optional_value h.value (dtype.Primitive q m) ≡ true
+      → SaysOf (of_fit w (is_some l) (exact_reading c l p q (dtype.Primitive q m) x)) (compared c (option_map (item_of (cells_of l)) h.value) (Some (exact_item x)))
+  exact_says c l p q m x h Same fit typed =
+      let r = exact_test c l q x in
+      let b = compared c (option_map (item_of (cells_of l)) h.value) (Some (exact_item x)) in
+      by_test (nat_le x.scale 33) (said (testing r p q (dtype.Primitive q m))) unread (λ t. SaysOf t b)
+      (λ short. from_said _ _ (compared_with c r.comparison p (record { dtype = dtype.Primitive q m; value = Some (value.Primitive (sized_in q r.number)) }) _ h (exact_compared c l q m x h.value fit typed)))
+      (λ long e p. cc)
+  exact_says c l p q m x h ByZone fit typed = λ e p. cc
+  exact_says c l p q m x h OtherKind fit typed = other_kind (is_some l) (exact_reading c l p q (dtype.Primitive q m) x) (compared c (option_map (item_of (cells_of l)) h.value) (Some (exact_item x)))
+
+  exact_literal_says : (c : Comparison) (l : Option LogicalType) (p : Place) (t : DType) (y : Operand) (h : Holds row (row ++ more) p) → is_optional_value h.value t ≡ true
+      → SaysOf (exact_literal c l p t y) (compared c (option_map (item_of (cells_of l)) h.value) (value_in s row y))
+  exact_literal_says c l p t operand.Other h typed = λ e q. cc
+  exact_literal_says c l p t operand.Null h typed = null_says (compared c (option_map (item_of (cells_of l)) h.value) None) (compared-none c (option_map (item_of (cells_of l)) h.value))
+  exact_literal_says c l p (dtype.Primitive q m) (operand.Exact x) h typed = exact_says c l p q m x h (kind_fit (kind_of l) x.kind) refl typed
+  exact_literal_says c l p (dtype.Bool m) (operand.Truth b) h typed =
+      from_said _ _ (compared_with c c p (record { dtype = dtype.Bool m; value = Some (value.Bool b) }) _ h (truth_compared c (cells_of l) m b h.value typed))
+  exact_literal_says c l p (dtype.Utf8 m) (operand.Text bs) h typed =
+      from_said _ _ (compared_with c c p (record { dtype = dtype.Utf8 m; value = Some (value.Utf8 bs) }) _ h (text_compared c (cells_of l) m bs h.value typed))
+  exact_literal_says c l p (dtype.Binary m) (operand.Binary bs) h typed =
+      from_said _ _ (compared_with c c p (record { dtype = dtype.Binary m; value = Some (value.Binary bs) }) _ h (binary_compared c (cells_of l) m bs h.value typed))
+  exact_literal_says c l p t y h typed = λ e q. cc
+
+  -- a column of floats with a float
+  in_type_says : (d : Comparison) (k : ℤ) (p : Place) (q : PType) (m : Nullability) (o : Option PValue) (h : Holds row (row ++ more) p) → in_type q k ≡ o → is_optional_value h.value (dtype.Primitive q m) ≡ true
+      → SaysOf (in_type_reading d p (dtype.Primitive q m) o) (cell_truth d k h.value)
+  in_type_says d k p q m None h is typed = λ e r. cc
+  in_type_says d k p q m (Some x) h is typed =
+      from_said _ _ (compared_with d d p (record { dtype = dtype.Primitive q m; value = Some (value.Primitive x) }) _ h (number_compared d q m k x h.value is typed))
+
+  cell_says : (d : Comparison) (k : ℤ) (p : Place) (q : PType) (m : Nullability) (h : Holds row (row ++ more) p) → is_optional_value h.value (dtype.Primitive q m) ≡ true
+      → SaysOf (cell_reading d k p q (dtype.Primitive q m)) (cell_truth d k h.value)
+  cell_says d k p q m h typed = in_type_says d k p q m (in_type q k) h refl typed
+
+  below_says : (below : Option ℤ) (p : Place) (q : PType) (m : Nullability) (r : Reading) (a : Option Bool) (h : Holds row (row ++ more) p) → is_optional_value h.value (dtype.Primitive q m) ≡ true → SaysOf r a
+      → SaysOf (below_reading below p q (dtype.Primitive q m) r) (bounded_truth below a h.value)
+  below_says None p q m r a h typed says = says
+  below_says (Some k) p q m r a h typed says = and_says r (cell_reading comparison.Lt k p q (dtype.Primitive q m)) a (cell_truth comparison.Lt k h.value) says (cell_says comparison.Lt k p q m h typed)
+
+  float_says : (c : Comparison) (x : FloatType) (w : Option NanMeaning) (p : Place) (q : PType) (m : Nullability) (b : ℕ) (found : Option FloatTest) (h : Holds row (row ++ more) p) → IfSome found (SaysOfFloat x w c b) → is_optional_value h.value (dtype.Primitive q m) ≡ true
+      → SaysOf (float_reading found p q (dtype.Primitive q m)) (compared c (option_map (item_of (Floats x w)) h.value) (Some (bits b)))
+  float_says c x w p q m b None h says typed = λ e r. cc
+  float_says c x w p q m b (Some t) h says typed =
+      along (float_reading (Some t) p q (dtype.Primitive q m)) (float_truth t h.value) _ (float_compared c x w q m b t h.value says typed)
+      (below_says t.below p q m (cell_reading t.test.comparison t.test.number p q (dtype.Primitive q m)) (cell_truth t.test.comparison t.test.number h.value) h typed (cell_says t.test.comparison t.test.number p q m h typed))
+
+  float_literal_says : (c : Comparison) (x : FloatType) (w : Option NanMeaning) (p : Place) (t : DType) (y : Operand) (h : Holds row (row ++ more) p) → is_optional_value h.value t ≡ true
+      → SaysOf (float_literal c x w p t y) (compared c (option_map (item_of (Floats x w)) h.value) (value_in s row y))
+  float_literal_says c x w p t operand.Other h typed = λ e q. cc
+  float_literal_says c x w p t operand.Null h typed = null_says (compared c (option_map (item_of (Floats x w)) h.value) None) (compared-none c (option_map (item_of (Floats x w)) h.value))
+  float_literal_says c x w p (dtype.Primitive q m) (operand.Float b) h typed = float_says c x w p q m b (readings_of_floats.compared x w c b) h (compared_says x w c b) typed
+  float_literal_says c x w p t y h typed = λ e q. cc
+
+  cells_say : (c : Comparison) (k : Cells) (p : Place) (t : DType) (y : Operand) (h : Holds row (row ++ more) p) → is_optional_value h.value t ≡ true
+      → SaysOf (cells_literal c k p t y) (compared c (option_map (item_of k) h.value) (value_in s row y))
+  cells_say c Values p t y h typed = exact_literal_says c None p t y h typed
+  cells_say c (Exact l) p t y h typed = exact_literal_says c (Some l) p t y h typed
+  cells_say c (Floats x w) p t y h typed = float_literal_says c x w p t y h typed
+
+  literal_says : (c : Comparison) (f : Field) (t : DType) (y : Operand) (h : Holds row (row ++ more) f.place) → is_optional_value h.value t ≡ true
+      → SaysOf (with_literal c f t y) (compared c (option_map (item_of f.cells) h.value) (value_in s row y))
+  literal_says c f t y h typed = cells_say c f.cells f.place t y h typed
+
+  -- the column of a name has a value on the row
+  field_holds : (name : List ℕ) (f : Field) → find_field s name ≡ Some f → Holds row (row ++ more) f.place
+  field_holds name f is = column_holds s.scope row more name f.place is_row (place_at s (find_column s.scope name) f is)
+
+  -- a column with another one
+  places_say : (c : Comparison) (f g : Field) (h : Holds row (row ++ more) f.place) (k : Holds row (row ++ more) g.place) → (eq_ignore_nullability f.place.dtype g.place.dtype && are_same_cells f.cells g.cells) ≡ true
+      → Means (comparing c f.place (column g.place)) (compared c (option_map (item_of f.cells) h.value) (option_map (item_of g.cells) k.value))
+  places_say c f g h k both =
+      let tests = both_true _ _ both in
+      let types : as_nullable f.place.dtype ≡ as_nullable g.place.dtype = (dtype_eq_is_exact (as_nullable f.place.dtype) (as_nullable g.place.dtype)).0 tests.0 in
+      let second : is_optional_value k.value (as_nullable f.place.dtype) ≡ true = ap (is_optional_value k.value) types ∙ weakened k.value g.place.dtype k.typed in
+      ap truth_value (ap (λ v. applied (operator_of c) v (cell_value (slice_get (row ++ more) g.place.index))) h.on_whole
+      ∙ ap (applied (operator_of c) h.value) k.on_whole
+      ∙ cells_compared c f.cells g.cells h.value k.value f.place.dtype tests.1 (weakened h.value f.place.dtype h.typed) second
+      ∙ ap (compared c (option_map (item_of f.cells) h.value)) (sym (same_values f.cells g.cells k.value tests.1)))
+
+  unless_same : (b : Option Bool) (are_numbers : Bool) → SaysOf (if are_numbers then unread else Err Misfit) b
+  unless_same b true = from_unread b
+  unless_same b false = λ e q. cc
+
+  place_says : (c : Comparison) (f : Field) (name : List ℕ) (o : Option Field) (h : Holds row (row ++ more) f.place) → find_field s name ≡ o
+      → SaysOf (with_place c f o) (compared c (option_map (item_of f.cells) h.value) (field_value row o))
+  place_says c f name None h is = λ e q. cc
+  place_says c f name (Some g) h is =
+      let k = field_holds name g is in
+      let b = compared c (option_map (item_of f.cells) h.value) (option_map (item_of g.cells) (cell_value (slice_get row g.place.index))) in
+      by_test (eq_ignore_nullability f.place.dtype g.place.dtype && are_same_cells f.cells g.cells) (said (comparing c f.place (column g.place))) (if readings.are_numbers f.place.dtype g.place.dtype then unread else Err Misfit) (λ r. SaysOf r b)
+      (λ same. from_said _ _ (places_say c f g h k same ∙ ap (λ v. truth_value (compared c (option_map (item_of f.cells) h.value) (option_map (item_of g.cells) v))) (sym k.on_row)))
+      (λ other. unless_same b (readings.are_numbers f.place.dtype g.place.dtype))
+
+  operand_says : (c : Comparison) (f : Field) (y : Operand) (h : Holds row (row ++ more) f.place)
+      → SaysOf (with_operand s c f y) (compared c (option_map (item_of f.cells) h.value) (value_in s row y))
+  operand_says c f (operand.Column name) h = place_says c f name (find_field s name) h refl
+  operand_says c f y h = literal_says c f f.place.dtype y h h.typed
+
+  from_place_says : (c : Comparison) (name : List ℕ) (o : Option Field) (y : Operand) → find_field s name ≡ o
+      → SaysOf (from_place s c o y) (compared c (field_value row o) (value_in s row y))
+  from_place_says c name None operand.Null is = null_says (compared c None None) refl
+  from_place_says c name None y is = λ e q. cc
+  from_place_says c name (Some f) y is =
+      let h = field_holds name f is in
+      λ e q. operand_says c f y h e q ∙ ap (λ v. truth_value (compared c (option_map (item_of f.cells) v) (value_in s row y))) (sym h.on_row)
+
+  literal_first : (c : Comparison) (x y : Operand) → SaysOf (from_literal s c x y) (compared c (value_in s row x) (value_in s row y))
+  literal_first c x (operand.Column name) =
+      λ e q. from_place_says (flipped c) name (find_field s name) x refl e q ∙ ap truth_value (flipped_compared c (value_in s row x) (value_in s row (operand.Column name)))
+  literal_first c x y = literals_say c (literal_of x) (literal_of y) (value_in s row x) (value_in s row y) (literal_is x) (literal_is y)
+
+  compare_typed_says : (c : Comparison) (x y : Operand) → SaysOf (compare_typed s c x y) (compared c (value_in s row x) (value_in s row y))
+  compare_typed_says c (operand.Column name) y = from_place_says c name (find_field s name) y refl
+  compare_typed_says c x y = literal_first c x y
+
+  compare_says : (c : Comparison) (x y : Operand) → SaysOf (compare s c x y) (compared_on s row c x y)
+  compare_says c x y = compare_typed_says c (beside s y x) (beside s x y)
+
+  -- ---- other tests
 
   -- each expression means a truth, and one of these is true as the last argument says
   abbrev AnyOf : List (Tree Place) → Option Bool → Type 0
@@ -434,9 +509,9 @@ module _ (s : SchemaData) (row more : List Constant) (n : ℕ) (is_row : IsRowOf
   as_truth_says name None is = λ e q. cc
   as_truth_says name (Some f) is =
       let h = field_holds name f is in
-      let b = truth_of (option_map (item_of f.logical) (cell_value (slice_get row f.place.index))) in
+      let b = truth_of (option_map (item_of f.cells) (cell_value (slice_get row f.place.index))) in
       by_test (is_bool f.place.dtype) (said (column f.place)) (Err Misfit) (λ r. SaysOf r b)
-      (λ bool. from_said _ _ (h.on_whole ∙ bool_value f.logical h.value f.place.dtype bool h.typed ∙ ap (λ v. truth_value (truth_of (option_map (item_of f.logical) v))) (sym h.on_row)))
+      (λ bool. from_said _ _ (h.on_whole ∙ bool_value f.cells h.value f.place.dtype bool h.typed ∙ ap (λ v. truth_value (truth_of (option_map (item_of f.cells) v))) (sym h.on_row)))
       (λ other e q. cc)
 
   truth_says : (x : Operand) → SaysOf (readings.truth s x) (truth_of (value_in s row x))
@@ -451,7 +526,7 @@ module _ (s : SchemaData) (row more : List Constant) (n : ℕ) (is_row : IsRowOf
   null_at_says name (Some f) is =
       let h = field_holds name f is in
       let v = cell_value (slice_get row f.place.index) in
-      from_said (is_null (column f.place)) (Some (is_none (option_map (item_of f.logical) v))) (ap (λ b. Some (value.Bool b)) (ap is_none (h.on_whole ∙ sym h.on_row) ∙ none_item f.logical v))
+      from_said (is_null (column f.place)) (Some (is_none (option_map (item_of f.cells) v))) (ap (λ b. Some (value.Bool b)) (ap is_none (h.on_whole ∙ sym h.on_row) ∙ none_item f.cells v))
 
   null_test_says : (x : Operand) → SaysOf (null_test s x) (Some (is_none (value_in s row x)))
   null_test_says (operand.Column name) = null_at_says name (find_field s name) refl
@@ -459,16 +534,16 @@ module _ (s : SchemaData) (row more : List Constant) (n : ℕ) (is_row : IsRowOf
 
   -- ---- IS DISTINCT FROM
 
-  is_null_means : (f : Field) (h : Holds row (row ++ more) f.place) → Means (is_null (column f.place)) (Some (is_none (option_map (item_of f.logical) h.value)))
-  is_null_means f h = ap (λ v. Some (value.Bool (is_none v))) h.on_whole ∙ ap (λ b. Some (value.Bool b)) (none_item f.logical h.value)
+  is_null_means : (f : Field) (h : Holds row (row ++ more) f.place) → Means (is_null (column f.place)) (Some (is_none (option_map (item_of f.cells) h.value)))
+  is_null_means f h = ap (λ v. Some (value.Bool (is_none v))) h.on_whole ∙ ap (λ b. Some (value.Bool b)) (none_item f.cells h.value)
 
-  is_not_null_means : (f : Field) (h : Holds row (row ++ more) f.place) → Means (is_not_null (column f.place)) (Some (not_b (is_none (option_map (item_of f.logical) h.value))))
-  is_not_null_means f h = ap (λ v. Some (value.Bool (not_b (is_none v)))) h.on_whole ∙ ap (λ b. Some (value.Bool (not_b b))) (none_item f.logical h.value)
+  is_not_null_means : (f : Field) (h : Holds row (row ++ more) f.place) → Means (is_not_null (column f.place)) (Some (not_b (is_none (option_map (item_of f.cells) h.value))))
+  is_not_null_means f h = ap (λ v. Some (value.Bool (not_b (is_none v)))) h.on_whole ∙ ap (λ b. Some (value.Bool (not_b b))) (none_item f.cells h.value)
 
   differs : (f : Field) (y : Operand) (b : Item) (h : Holds row (row ++ more) f.place) → value_in s row y ≡ Some b
-      → SaysOf (joined_by operator.Or (with_literal comparison.NotEq f f.place.dtype y) (said (is_null (column f.place)))) (distinct (option_map (item_of f.logical) h.value) (value_in s row y))
+      → SaysOf (joined_by operator.Or (with_literal comparison.NotEq f f.place.dtype y) (said (is_null (column f.place)))) (distinct (option_map (item_of f.cells) h.value) (value_in s row y))
   differs f y b h is =
-      let x = option_map (item_of f.logical) h.value in
+      let x = option_map (item_of f.cells) h.value in
       let w = value_in s row y in
       along (joined_by operator.Or (with_literal comparison.NotEq f f.place.dtype y) (said (is_null (column f.place)))) (either (compared comparison.NotEq x w) (Some (is_none x))) (distinct x w)
       (ap (λ v. either (compared comparison.NotEq x v) (Some (is_none x))) is ∙ differs_or_null x b ∙ ap (distinct x) (sym is))
@@ -479,24 +554,32 @@ module _ (s : SchemaData) (row more : List Constant) (n : ℕ) (is_row : IsRowOf
   other_unread (Ok a) b = λ e q. cc
   other_unread (Err f) b = λ e q. cc
 
-  distinct_from_says : (f : Field) (y : Operand) (h : Holds row (row ++ more) f.place) → SaysOf (distinct_from f y) (distinct (option_map (item_of f.logical) h.value) (value_in s row y))
+  other_literal : (c : Comparison) (k : Cells) (p : Place) (t : DType) → cells_literal c k p t operand.Other ≡ unread
+  other_literal c Values p t = refl
+  other_literal c (Exact l) p t = refl
+  other_literal c (Floats x w) p t = refl
+
+  distinct_from_says : (f : Field) (y : Operand) (h : Holds row (row ++ more) f.place) → SaysOf (distinct_from f y) (distinct (option_map (item_of f.cells) h.value) (value_in s row y))
   distinct_from_says f (operand.Column name) h = λ e q. cc
   distinct_from_says f operand.Null h =
-      let x = option_map (item_of f.logical) h.value in
+      let x = option_map (item_of f.cells) h.value in
       along (said (is_not_null (column f.place))) (Some (not_b (is_none x))) (distinct x None) (sym (distinct-none x))
       (from_said (is_not_null (column f.place)) (Some (not_b (is_none x))) (is_not_null_means f h))
   distinct_from_says f (operand.Truth b) h = differs f (operand.Truth b) (truth b) h refl
   distinct_from_says f (operand.Exact x) h = differs f (operand.Exact x) (exact_item x) h refl
+  distinct_from_says f (operand.Float b) h = differs f (operand.Float b) (bits b) h refl
   distinct_from_says f (operand.Text bs) h = differs f (operand.Text bs) (text bs) h refl
   distinct_from_says f (operand.Binary bs) h = differs f (operand.Binary bs) (binary_item bs) h refl
-  distinct_from_says f operand.Other h = other_unread (said (is_null (column f.place))) (distinct (option_map (item_of f.logical) h.value) None)
+  distinct_from_says f operand.Other h =
+      let r = said (is_null (column f.place)) in
+      λ e q. other_unread r (distinct (option_map (item_of f.cells) h.value) None) e (ap (λ u. joined_by operator.Or u r) (sym (other_literal comparison.NotEq f.cells f.place f.place.dtype)) ∙ q)
 
   distinct_at_says : (name : List ℕ) (o : Option Field) (y : Operand) → find_field s name ≡ o
       → SaysOf (distinct_at o y) (distinct (field_value row o) (value_in s row y))
   distinct_at_says name None y is = λ e q. cc
   distinct_at_says name (Some f) y is =
       let h = field_holds name f is in
-      λ e q. distinct_from_says f y h e q ∙ ap (λ v. truth_value (distinct (option_map (item_of f.logical) v) (value_in s row y))) (sym h.on_row)
+      λ e q. distinct_from_says f y h e q ∙ ap (λ v. truth_value (distinct (option_map (item_of f.cells) v) (value_in s row y))) (sym h.on_row)
 
   distinct_from_literal_says : (x y : Operand) → SaysOf (distinct_from_literal s x y) (distinct (value_in s row x) (value_in s row y))
   distinct_from_literal_says x (operand.Column name) =
@@ -521,11 +604,11 @@ module _ (s : SchemaData) (row more : List Constant) (n : ℕ) (is_row : IsRowOf
   like_says name bs None is = λ e q. cc
   like_says name bs (Some f) is =
       let h = field_holds name f is in
-      let b = liked (option_map (item_of f.logical) (cell_value (slice_get row f.place.index))) (Some (text bs)) in
+      let b = liked (option_map (item_of f.cells) (cell_value (slice_get row f.place.index))) (Some (text bs)) in
       by_test (is_utf8 f.place.dtype) (said (like plain (column f.place) (constant (dtype.Utf8 NonNullable) (value.Utf8 bs)))) (Err Misfit) (λ r. SaysOf r b)
       (λ utf8. from_said _ _ (ap (λ v. truth_value (meanings.liked plain v (Some (value.Utf8 bs)))) h.on_whole
-      ∙ ap truth_value (text_liked f.logical h.value f.place.dtype bs utf8 h.typed)
-      ∙ ap (λ v. truth_value (liked (option_map (item_of f.logical) v) (Some (text bs)))) (sym h.on_row)))
+      ∙ ap truth_value (text_liked f.cells h.value f.place.dtype bs utf8 h.typed)
+      ∙ ap (λ v. truth_value (liked (option_map (item_of f.cells) v) (Some (text bs)))) (sym h.on_row)))
       (λ other e q. cc)
 
   pattern_says : (x p : Operand) → SaysOf (pattern_test s x p) (liked (value_in s row x) (value_in s row p))

@@ -2,16 +2,19 @@
 use Rattle.std.proofs.Common.{◌≡◌, ◌||◌, ℕ, List, [], ap, bytes_eq, false, refl, true}
 use Rattle.vortex_base.specs.Data.Scopes.{bytes_eq_is_exact}
 use Rattle.vortex_sql.specs.Lowering.{leaf_name}
-use Rattle.std.specs.Prelude.{Ok, Option, Some, pos}
+use Rattle.std.specs.Prelude.{None, Ok, Option, Some, pos}
 use Rattle.vortex_expr.specs.declared.scalar_fn.Operator.TheVariants as operator
 use Rattle.vortex_logical.specs.Meaning.{Fraction}
 use Rattle.vortex_logical.specs.declared.comparison.Comparison.{Comparison}
 use Rattle.vortex_logical.specs.declared.comparison.Comparison.TheVariants as comparison
 use Rattle.vortex_logical.specs.declared.logical_type.ExactKind.TheVariants.{Clock, Instant, TimeOfDay}
-use Rattle.vortex_sql.specs.Readings.{Reading, any_of, compare, compare_typed, distinct_typed, joined_by, with_member}
-use Rattle.vortex_sql.specs.Typing.{scaled, typed_text}
+use Rattle.vortex_sql.specs.Readings.{Reading, any_of, compare, compare_typed, distinct_typed, joined_by, reading, with_member}
+use Rattle.vortex_floats.specs.Nearest.{nearest_over}
+use Rattle.vortex_logical.specs.declared.float_type.FloatType.TheVariants as float
+use Rattle.vortex_sql.specs.declared.syntax.tree.Test.TheVariants as test
+use Rattle.vortex_sql.specs.Typing.{scaled, typed_bits, typed_text}
 use Rattle.vortex_sql.specs.declared.syntax.tree.Operand.{Operand}
-use Rattle.vortex_sql.specs.Worked.{called, clock, d, dated, m, t, z, ReadingExamples, OtherReadings, OrderExamples, TruthExamples, TextReadings, TypedReadings, TypedTruths, PatternExamples, LeafNames}
+use Rattle.vortex_sql.specs.Worked.{called, clock, d, dated, m, t, z, ReadingExamples, OtherReadings, OrderExamples, TruthExamples, TextReadings, TypedReadings, TypedTruths, PatternExamples, LeafNames, FloatReadings, FloatCells, half, measured, one_and_half, x}
 
 pub readings : ReadingExamples
 readings = record {
@@ -282,4 +285,53 @@ leaf_names = record {
   other_type = refl;
   no_column = refl;
   statistic = refl;
+}
+
+float_typed : (o : Option ℕ) → nearest_over float.F64 (pos 15) 1 ≡ o → reading measured (test.Compare comparison.Lt x (half (pos 15))) ≡ compare_typed measured comparison.Lt x (typed_bits o)
+float_typed o h = ap (λ b. compare_typed measured comparison.Lt x (typed_bits b)) h
+
+pub float_readings : FloatReadings
+float_readings = record {
+  lt = refl;
+  lte = refl;
+  equal = refl;
+  not_equal = refl;
+  below_zero = refl;
+  gt_unsaid = refl;
+  gte_unsaid = refl;
+  turned = refl;
+  gt_greatest = refl;
+  gt_ieee = refl;
+  lt_ieee = refl;
+  nan = refl;
+  short = refl;
+  narrow = refl;
+  with_null = refl;
+  with_other = refl;
+  with_truth = refl;
+  with_text = refl;
+  with_clock = refl;
+  too_long = refl;
+  two_columns = refl;
+  null_test = refl;
+  number = λ h. float_typed (Some one_and_half) h;
+  no_float = λ h. float_typed None h;
+}
+
+pub float_cells : FloatCells
+float_cells = record {
+  same_floats = refl;
+  floats_and_values = refl;
+  values_and_floats = refl;
+  dates_and_floats = refl;
+  values = refl;
+  cell = refl;
+  below_zero = refl;
+  unsaid = refl;
+  meant = refl;
+  literal = refl;
+  two_literals = refl;
+  held = refl;
+  held_ieee = refl;
+  held_turned = refl;
 }

@@ -1,5 +1,5 @@
 -- What is said of a test: an expression, nothing, or that the types of its operands don't fit.
-use Rattle.std.specs.Prelude.{◌≡◌, ◌==◌, ◌&&◌, ℕ, ◌++◌, Bool, true, false, nat_le, Option, Some, None, List, [], ◌∷◌, Result, Ok, Err, if◌then◌else◌, MatchResult, is_none, is_some}
+use Rattle.std.specs.Prelude.{◌≡◌, ◌==◌, ◌&&◌, ℕ, ℤ, ◌++◌, Bool, true, false, nat_le, Option, Some, None, List, [], ◌∷◌, Result, Ok, Err, if◌then◌else◌, MatchResult, is_none, is_some}
 use Rattle.std.specs.declared.cmp.Ordering.{Ordering}
 use Rattle.vortex_base.specs.declared.types.PType.{PType}
 use Rattle.vortex_base.specs.declared.types.Nullability.TheVariants.{Nullable, NonNullable}
@@ -14,6 +14,14 @@ use Rattle.vortex_expr.specs.Meanings.Meaning.{holds, truth_value}
 use Rattle.vortex_expr.specs.Meanings.Typing.{is_bool, is_utf8}
 use Rattle.vortex_expr.specs.Patterns.Like.{plain}
 use Rattle.vortex_expr.specs.Trees.Tree.{Tree, Place, literal, column, binary, is_null, is_not_null, like}
+use Rattle.vortex_floats.specs.Cells.{compared as float_compared}
+use Rattle.vortex_logical.specs.declared.float_type.FloatType.{FloatType}
+use Rattle.vortex_logical.specs.declared.float_test.FloatTest.{FloatTest}
+use Rattle.vortex_logical.specs.declared.float_test.NanMeaning.{NanMeaning}
+use Rattle.vortex_logical.specs.declared.logical_type.LogicalType.{LogicalType}
+use Rattle.vortex_base.specs.declared.pvalue.PValue.{PValue}
+use Rattle.vortex_sql.specs.declared.cells.Cells.{Cells}
+use Rattle.vortex_sql.specs.declared.cells.Cells.TheVariants.{Values, Exact, Floats}
 use Rattle.vortex_logical.specs.declared.comparison.Comparison.{Comparison}
 use Rattle.vortex_logical.specs.declared.comparison.Comparison.TheVariants as comparison
 use Rattle.vortex_logical.specs.declared.lower.CellTest.{CellTest}
@@ -34,14 +42,14 @@ use Rattle.vortex_sql.specs.Schemas.{Field, SchemaData, find_field}
 use Rattle.vortex_logical.specs.declared.logical_type.ExactKind.TheVariants.{Number}
 use Rattle.vortex_sql.specs.Typing.{are_same_cells, beside, is_same, kind_fit, kind_of, step_of}
 use Rattle.vortex_sql.specs.Sql.{Item, truth as truth_item, exact_item, text, binary as binary_item, item_cmp, operator_of, flipped}
-use Rattle.vortex_sql.specs.Numbers.{range_of, sized_in}
+use Rattle.vortex_sql.specs.Numbers.{in_type, range_of, sized_in}
 use Rattle.vortex_sql.specs.Halves.{joined}
 
 abbrev pub place_of_found : Found → Place
 place_of_found f = record { index = f.index; dtype = f.dtype }
 
 abbrev pub field_of_found : Found → Field
-field_of_found f = record { place = place_of_found f; logical = f.logical }
+field_of_found f = record { place = place_of_found f; cells = f.cells }
 
 abbrev pub tree_of_found : Found → Tree Place
 tree_of_found f = column (place_of_found f)
@@ -88,6 +96,7 @@ literal_of (operand.Column name) = None
 literal_of operand.Null = Some None
 literal_of (operand.Truth b) = Some (Some (truth_item b))
 literal_of (operand.Exact x) = whole_literal x (is_whole x)
+literal_of (operand.Float b) = None
 literal_of (operand.Text bs) = Some (Some (text bs))
 literal_of (operand.Binary bs) = Some (Some (binary_item bs))
 literal_of operand.Other = None
@@ -119,16 +128,27 @@ literals c a b = unread
 abbrev pub comparing : Comparison → Place → Tree Place → Tree Place
 comparing c p t = binary (operator_of c) (column p) t
 
+-- both parts, if both are said
+abbrev pub both_said : Operator → Option (Tree Place) → Option (Tree Place) → Option (Tree Place)
+both_said o None b = None
+both_said o (Some s) None = None
+both_said o (Some s) (Some t) = Some (binary o s t)
+
+abbrev pub joined_by : Operator → Reading → Reading → Reading
+joined_by o (Ok a) (Ok b) = Ok (both_said o a b)
+joined_by o (Ok a) (Err e) = Err e
+joined_by o (Err e) b = Err e
+
 -- the test of a column's numbers that says what the comparison with the literal says
-abbrev pub exact_test : Comparison → Field → PType → ExactNumber → CellTest
-exact_test c f n x = lowered c (place_of (step_of f.logical) x.top x.scale) (range_of n)
+abbrev pub exact_test : Comparison → Option LogicalType → PType → ExactNumber → CellTest
+exact_test c l n x = lowered c (place_of (step_of l) x.top x.scale) (range_of n)
 
 abbrev pub testing : CellTest → Place → PType → DType → Tree Place
 testing r p n t = comparing r.comparison p (constant t (value.Primitive (sized_in n r.number)))
 
 -- a literal of more than 33 digits behind the point isn't read
-abbrev pub exact_reading : Comparison → Field → PType → DType → ExactNumber → Reading
-exact_reading c f n t x = if nat_le x.scale 33 then said (testing (exact_test c f n x) f.place n t) else unread
+abbrev pub exact_reading : Comparison → Option LogicalType → Place → PType → DType → ExactNumber → Reading
+exact_reading c l p n t x = if nat_le x.scale 33 then said (testing (exact_test c l n x) p n t) else unread
 
 -- A number of another kind misfits a column of a logical type. One whose cells are the numbers themselves may stand for anything, so nothing is said.
 abbrev pub of_fit : KindFit → (is_logical : Bool) → Reading → Reading
@@ -137,18 +157,51 @@ of_fit ByZone b r = unread
 of_fit OtherKind true r = Err Misfit
 of_fit OtherKind false r = unread
 
-abbrev pub with_kind : Comparison → Field → PType → DType → ExactNumber → Reading
-with_kind c f n t x = of_fit (kind_fit (kind_of f.logical) x.kind) (is_some f.logical) (exact_reading c f n t x)
+abbrev pub with_kind : Comparison → Option LogicalType → Place → PType → DType → ExactNumber → Reading
+with_kind c l p n t x = of_fit (kind_fit (kind_of l) x.kind) (is_some l) (exact_reading c l p n t x)
 
 -- a column of a type with an operand that is no column: a literal takes the column's type
+abbrev pub exact_literal : Comparison → Option LogicalType → Place → DType → Operand → Reading
+exact_literal c l p t operand.Other = unread
+exact_literal c l p t operand.Null = said (truth_literal None)
+exact_literal c l p (dtype.Primitive n m) (operand.Exact x) = with_kind c l p n (dtype.Primitive n m) x
+exact_literal c l p (dtype.Bool m) (operand.Truth b) = said (comparing c p (constant (dtype.Bool m) (value.Bool b)))
+exact_literal c l p (dtype.Utf8 m) (operand.Text bs) = said (comparing c p (constant (dtype.Utf8 m) (value.Utf8 bs)))
+exact_literal c l p (dtype.Binary m) (operand.Binary bs) = said (comparing c p (constant (dtype.Binary m) (value.Binary bs)))
+exact_literal c l p t y = Err Misfit
+
+-- a comparison of the whole numbers of a column, where its type has the other number
+abbrev pub in_type_reading : Comparison → Place → DType → Option PValue → Reading
+in_type_reading c p t None = unread
+in_type_reading c p t (Some v) = said (comparing c p (constant t (value.Primitive v)))
+
+abbrev pub cell_reading : Comparison → ℤ → Place → PType → DType → Reading
+cell_reading c k p n t = in_type_reading c p t (in_type n k)
+
+-- what is said, and that the whole numbers are below a bound, if there is one
+abbrev pub below_reading : Option ℤ → Place → PType → DType → Reading → Reading
+below_reading None p n t r = r
+below_reading (Some k) p n t r = joined_by operator.And r (cell_reading comparison.Lt k p n t)
+
+-- a test of the whole numbers of floats, if there is one
+abbrev pub float_reading : Option FloatTest → Place → PType → DType → Reading
+float_reading None p n t = unread
+float_reading (Some x) p n t = below_reading x.below p n t (cell_reading x.test.comparison x.test.number p n t)
+
+-- a column of floats with an operand that is no column
+abbrev pub float_literal : Comparison → FloatType → Option NanMeaning → Place → DType → Operand → Reading
+float_literal c x m p t operand.Other = unread
+float_literal c x m p t operand.Null = said (truth_literal None)
+float_literal c x m p (dtype.Primitive n z) (operand.Float b) = float_reading (float_compared x m c b) p n (dtype.Primitive n z)
+float_literal c x m p t y = Err Misfit
+
+abbrev pub cells_literal : Comparison → Cells → Place → DType → Operand → Reading
+cells_literal c Values p t y = exact_literal c None p t y
+cells_literal c (Exact l) p t y = exact_literal c (Some l) p t y
+cells_literal c (Floats x m) p t y = float_literal c x m p t y
+
 abbrev pub with_literal : Comparison → Field → DType → Operand → Reading
-with_literal c f t operand.Other = unread
-with_literal c f t operand.Null = said (truth_literal None)
-with_literal c f (dtype.Primitive n m) (operand.Exact x) = with_kind c f n (dtype.Primitive n m) x
-with_literal c f (dtype.Bool m) (operand.Truth b) = said (comparing c f.place (constant (dtype.Bool m) (value.Bool b)))
-with_literal c f (dtype.Utf8 m) (operand.Text bs) = said (comparing c f.place (constant (dtype.Utf8 m) (value.Utf8 bs)))
-with_literal c f (dtype.Binary m) (operand.Binary bs) = said (comparing c f.place (constant (dtype.Binary m) (value.Binary bs)))
-with_literal c f t y = Err Misfit
+with_literal c f t y = cells_literal c f.cells f.place t y
 
 -- two columns of types that are both of numbers, of which only those whose cells stand for the same values are compared
 abbrev pub are_numbers : DType → DType → Bool
@@ -158,7 +211,7 @@ are_numbers s t = false
 abbrev pub with_place : Comparison → Field → Option Field → Reading
 with_place c f None = unread
 with_place c f (Some g) =
-    if eq_ignore_nullability f.place.dtype g.place.dtype && are_same_cells f.logical g.logical then said (comparing c f.place (column g.place))
+    if eq_ignore_nullability f.place.dtype g.place.dtype && are_same_cells f.cells g.cells then said (comparing c f.place (column g.place))
     else (if are_numbers f.place.dtype g.place.dtype then unread else Err Misfit)
 
 abbrev pub with_operand : SchemaData → Comparison → Field → Operand → Reading
@@ -184,17 +237,6 @@ abbrev pub compare : SchemaData → Comparison → Operand → Operand → Readi
 compare s c x y = compare_typed s c (beside s y x) (beside s x y)
 
 -- ---- other tests
-
--- both parts, if both are said
-abbrev pub both_said : Operator → Option (Tree Place) → Option (Tree Place) → Option (Tree Place)
-both_said o None b = None
-both_said o (Some s) None = None
-both_said o (Some s) (Some t) = Some (binary o s t)
-
-abbrev pub joined_by : Operator → Reading → Reading → Reading
-joined_by o (Ok a) (Ok b) = Ok (both_said o a b)
-joined_by o (Ok a) (Err e) = Err e
-joined_by o (Err e) b = Err e
 
 -- a column that stands for a truth
 abbrev pub as_truth : Option Field → Reading

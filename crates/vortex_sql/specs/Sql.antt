@@ -15,7 +15,14 @@ use Rattle.vortex_expr.specs.Meanings.Meaning.{both, either, holds}
 use Rattle.vortex_logical.specs.declared.comparison.Comparison.{Comparison}
 use Rattle.vortex_logical.specs.declared.comparison.Comparison.TheVariants as comparison
 use Rattle.vortex_logical.specs.declared.logical_type.ExactKind.{ExactKind}
-use Rattle.vortex_logical.specs.declared.logical_type.LogicalType.{LogicalType}
+use Rattle.vortex_logical.specs.declared.logical_type.ExactKind.TheVariants.{Number}
+use Rattle.vortex_logical.specs.declared.float_type.FloatType.{FloatType}
+use Rattle.vortex_logical.specs.declared.float_test.NanMeaning.{NanMeaning}
+use Rattle.vortex_logical.specs.declared.float_test.NanMeaning.TheVariants.{Greatest}
+use Rattle.vortex_logical.specs.Floats.{float_holds}
+use Rattle.vortex_floats.specs.Cells.{bits_at}
+use Rattle.vortex_sql.specs.declared.cells.Cells.{Cells}
+use Rattle.vortex_sql.specs.declared.cells.Cells.TheVariants.{Values, Exact, Floats}
 use Rattle.vortex_logical.specs.Meaning.{Fraction, fraction_cmp, over, steps}
 use Rattle.vortex_sql.specs.declared.syntax.tree.Escape.{Escape}
 use Rattle.vortex_sql.specs.declared.syntax.tree.Escape.TheVariants as escape
@@ -48,19 +55,27 @@ flipped comparison.Lte = comparison.Gte
 
 -- ---- values as SQL compares them
 
--- a number is its size, whatever the width of its type, beside what it counts
+-- a number is its size, whatever the width of its type, beside what it counts; a float stands by its bits, of a column with what a NaN means there, or of a literal that the column beside it types
 pub data Item : Type 0 where
   truth : Bool → Item
   exact : ExactKind → Fraction → Item
+  float : FloatType → Option NanMeaning → (bits : ℕ) → Item
+  bits : ℕ → Item
   text : List ℕ → Item
   binary : List ℕ → Item
 
+-- what a whole number in a column stands for
+abbrev pub number_item : Cells → ℤ → Item
+number_item Values n = exact Number (steps (step_of None) n)
+number_item (Exact t) n = exact (kind_of (Some t)) (steps (step_of (Some t)) n)
+number_item (Floats t m) n = float t m (bits_at t n)
+
 -- the value that a cell of a column stands for
-abbrev pub item_of : Option LogicalType → ScalarValue → Item
-item_of t (value.Bool b) = truth b
-item_of t (value.Primitive p) = exact (kind_of t) (steps (step_of t) (number_of p))
-item_of t (value.Utf8 bs) = text bs
-item_of t (value.Binary bs) = binary bs
+abbrev pub item_of : Cells → ScalarValue → Item
+item_of k (value.Bool b) = truth b
+item_of k (value.Primitive p) = number_item k (number_of p)
+item_of k (value.Utf8 bs) = text bs
+item_of k (value.Binary bs) = binary bs
 
 -- the value of a literal number
 abbrev pub exact_item : ExactNumber → Item
@@ -84,18 +99,29 @@ item_cmp (text a) (text b) = Some (slice_cmp nat_cmp a b)
 item_cmp (binary a) (binary b) = Some (slice_cmp nat_cmp a b)
 item_cmp a b = None
 
+-- what a comparison with NaN means; where that isn't said, only tests are read on which both meanings agree
+abbrev pub meant : Option NanMeaning → NanMeaning
+meant None = Greatest
+meant (Some m) = m
+
+-- whether two values compare so; a float does with a literal as floats do
+abbrev pub item_holds : Comparison → Item → Item → Option Bool
+item_holds c (float t m a) (bits b) = Some (float_holds (meant m) t c a b)
+item_holds c (bits a) (float t m b) = Some (float_holds (meant m) t (flipped c) b a)
+item_holds c a b = option_map (holds (operator_of c)) (item_cmp a b)
+
 -- null if either is null
 abbrev pub compared : Comparison → Option Item → Option Item → Option Bool
 compared c None b = None
 compared c (Some a) None = None
-compared c (Some a) (Some b) = option_map (holds (operator_of c)) (item_cmp a b)
+compared c (Some a) (Some b) = item_holds c a b
 
 -- one is null and the other isn't, or they differ; never null
 abbrev pub distinct : Option Item → Option Item → Option Bool
 distinct None None = Some false
 distinct None (Some b) = Some true
 distinct (Some a) None = Some true
-distinct (Some a) (Some b) = option_map (holds operator.NotEq) (item_cmp a b)
+distinct (Some a) (Some b) = item_holds comparison.NotEq a b
 
 -- the whole text matches the pattern, in which % stands for any run of characters, _ for any one, and a backslash makes the next one literal
 abbrev pub liked : Option Item → Option Item → Option Bool
@@ -135,13 +161,14 @@ truth_of v = None
 -- the optional value of a column on a row
 abbrev pub field_value : List Constant → Option Field → Option Item
 field_value row None = None
-field_value row (Some f) = option_map (item_of f.logical) (cell_value (slice_get row f.place.index))
+field_value row (Some f) = option_map (item_of f.cells) (cell_value (slice_get row f.place.index))
 
 abbrev pub value_in : SchemaData → List Constant → Operand → Option Item
 value_in s row (operand.Column name) = field_value row (find_field s name)
 value_in s row operand.Null = None
 value_in s row (operand.Truth b) = Some (truth b)
 value_in s row (operand.Exact x) = Some (exact_item x)
+value_in s row (operand.Float b) = Some (bits b)
 value_in s row (operand.Text bs) = Some (text bs)
 value_in s row (operand.Binary bs) = Some (binary bs)
 value_in s row operand.Other = None

@@ -23,11 +23,16 @@ use Rattle.vortex_logical.specs.declared.logical_type.ExactKind.TheVariants as k
 use Rattle.vortex_logical.specs.declared.logical_type.LogicalType.TheVariants as logical
 use Rattle.vortex_logical.specs.declared.time_unit.TimeUnit.TheVariants as unit
 use Rattle.vortex_logical.specs.Meaning.{over}
+use Rattle.vortex_floats.specs.Nearest.{nearest_over}
+use Rattle.vortex_logical.specs.Floats.{float_holds}
+use Rattle.vortex_logical.specs.declared.float_test.NanMeaning.TheVariants as nan
+use Rattle.vortex_logical.specs.declared.float_type.FloatType.TheVariants as float
+use Rattle.vortex_sql.specs.declared.cells.Cells.TheVariants as cells
 use Rattle.vortex_sql.specs.declared.syntax.tree.Condition.{Condition}
 use Rattle.vortex_sql.specs.declared.syntax.tree.Condition.TheVariants.{Leaf as Leaf'}
 use Rattle.vortex_sql.specs.declared.syntax.tree.Escape.TheVariants as escape
 use Rattle.vortex_sql.specs.declared.syntax.tree.Operand.{Operand}
-use Rattle.vortex_sql.specs.declared.syntax.tree.Operand.TheVariants.{Column, Null, Truth, Exact, Text, Binary, Other}
+use Rattle.vortex_sql.specs.declared.syntax.tree.Operand.TheVariants.{Column, Null, Truth, Exact, Float, Text, Binary, Other}
 use Rattle.vortex_sql.specs.declared.syntax.tree.Test.{Test}
 use Rattle.vortex_sql.specs.declared.syntax.tree.Test.TheVariants as test
 use Rattle.vortex_sql.specs.Sql as sql
@@ -301,7 +306,7 @@ i64 = dtype.Primitive ptype.I64 Nullable
 abbrev pub dated : SchemaData
 dated = record {
   scope = (codes "d", i32) ∷ (codes "t", i64) ∷ (codes "z", i64) ∷ (codes "m", i64) ∷ (codes "n", i64) ∷ [];
-  logical = Some logical.Date ∷ Some (logical.Timestamp unit.Microseconds) ∷ Some (logical.TimestampTz unit.Milliseconds) ∷ Some (logical.Time unit.Microseconds) ∷ [];
+  cells = cells.Exact logical.Date ∷ cells.Exact (logical.Timestamp unit.Microseconds) ∷ cells.Exact (logical.TimestampTz unit.Milliseconds) ∷ cells.Exact (logical.Time unit.Microseconds) ∷ [];
 }
 
 abbrev pub d : Operand
@@ -382,14 +387,14 @@ pub record TypedTruths : Type 0 where
   pub before_noon : test_truth dated (day_row (pos 1)) (test.Compare Lt d (clock (pos 129_600) 0)) ≡ Some true
   pub after_noon : test_truth dated (day_row (pos 2)) (test.Compare Lt d (clock (pos 129_600) 0)) ≡ Some false
   pub number_beside_day : test_truth dated (day_row (pos 1)) (test.Compare Eq d (Integer (pos 1))) ≡ None
-  pub same_cells : are_same_cells (Some (logical.Timestamp unit.Seconds)) (Some (logical.Timestamp unit.Milliseconds)) ≡ false
-  pub same_zones : are_same_cells (Some (logical.Timestamp unit.Seconds)) (Some (logical.TimestampTz unit.Seconds)) ≡ false
-  pub same_days : are_same_cells (Some logical.Date) (Some logical.Date) ≡ true
-  pub days_and_seconds : are_same_cells (Some logical.Date) (Some (logical.Timestamp unit.Seconds)) ≡ false
+  pub same_cells : are_same_cells (cells.Exact (logical.Timestamp unit.Seconds)) (cells.Exact (logical.Timestamp unit.Milliseconds)) ≡ false
+  pub same_zones : are_same_cells (cells.Exact (logical.Timestamp unit.Seconds)) (cells.Exact (logical.TimestampTz unit.Seconds)) ≡ false
+  pub same_days : are_same_cells (cells.Exact logical.Date) (cells.Exact logical.Date) ≡ true
+  pub days_and_seconds : are_same_cells (cells.Exact logical.Date) (cells.Exact (logical.Timestamp unit.Seconds)) ≡ false
   pub text_beside_text : beside dated (Text (codes "x")) (Text day_text) ≡ Text day_text
   pub text_beside_number : beside dated n (Text day_text) ≡ Text day_text
   pub number_beside_column : beside dated d (Integer (pos 1)) ≡ Integer (pos 1)
-  pub text_beside_decimal : (x : DecimalDType) → typed_as (Some (logical.Decimal x)) (Text day_text) ≡ Other
+  pub text_beside_decimal : (x : DecimalDType) → typed_as (cells.Exact (logical.Decimal x)) (Text day_text) ≡ Other
 
 -- ---- the columns of the leaves that aren't read
 
@@ -415,3 +420,92 @@ pub record LeafNames : Type 0 where
   pub other_type : is_fit (here 0 bool_or_null) scope ≡ false
   pub no_column : is_fit (here 4 bool_or_null) scope ≡ false
   pub statistic : is_fit (is_not_null (stat aggregate.Min (here 0 u8))) scope ≡ false
+
+-- ---- floats
+
+abbrev pub measured : SchemaData
+measured = record {
+  scope = (codes "x", i64) ∷ (codes "g", i64) ∷ (codes "i", i64) ∷ (codes "f", i32) ∷ (codes "w", i8) ∷ [];
+  cells =
+      cells.Floats float.F64 None ∷ cells.Floats float.F64 (Some nan.Greatest) ∷ cells.Floats float.F64 (Some nan.Ieee) ∷ cells.Floats float.F32 None ∷ cells.Floats float.F64 None ∷ [];
+}
+
+abbrev pub x : Operand
+x = Column (codes "x")
+
+abbrev pub g : Operand
+g = Column (codes "g")
+
+abbrev pub i : Operand
+i = Column (codes "i")
+
+abbrev pub f : Operand
+f = Column (codes "f")
+
+abbrev pub w : Operand
+w = Column (codes "w")
+
+-- the bits of 1.5, of -2.0 and of NaN
+abbrev pub one_and_half : ℕ
+one_and_half = 4_609_434_218_613_702_656
+
+abbrev pub minus_two : ℕ
+minus_two = 13_835_058_055_282_163_712
+
+abbrev pub not_a_number : ℕ
+not_a_number = 9_221_120_237_041_090_560
+
+-- 1.5 in 32 bits
+abbrev pub short_half : ℕ
+short_half = 1_069_547_520
+
+-- what is said of comparisons of floats: each is one of whole numbers, where NaN's is above all others
+pub record FloatReadings : Type 0 where
+  pub lt : reading measured (test.Compare Lt x (Float one_and_half)) ≡ said (i64_is 0 operator.Lt (pos 4_609_434_218_613_702_656))
+  pub lte : reading measured (test.Compare Lte x (Float one_and_half)) ≡ said (i64_is 0 operator.Lte (pos 4_609_434_218_613_702_656))
+  pub equal : reading measured (test.Compare Eq x (Float one_and_half)) ≡ said (i64_is 0 operator.Eq (pos 4_609_434_218_613_702_656))
+  pub not_equal : reading measured (test.Compare NotEq x (Float one_and_half)) ≡ said (i64_is 0 operator.NotEq (pos 4_609_434_218_613_702_656))
+  pub below_zero : reading measured (test.Compare Lt x (Float minus_two)) ≡ said (i64_is 0 operator.Lt (negsuc 4_611_686_018_427_387_904))
+  pub gt_unsaid : reading measured (test.Compare Gt x (Float one_and_half)) ≡ unread
+  pub gte_unsaid : reading measured (test.Compare Gte x (Float one_and_half)) ≡ unread
+  pub turned : reading measured (test.Compare Gt (Float one_and_half) x) ≡ said (i64_is 0 operator.Lt (pos 4_609_434_218_613_702_656))
+  pub gt_greatest : reading measured (test.Compare Gt g (Float one_and_half)) ≡ said (i64_is 1 operator.Gt (pos 4_609_434_218_613_702_656))
+  pub gt_ieee : reading measured (test.Compare Gt i (Float one_and_half)) ≡ said (binary operator.And (i64_is 2 operator.Gt (pos 4_609_434_218_613_702_656)) (i64_is 2 operator.Lt (pos 9_221_120_237_041_090_560)))
+  pub lt_ieee : reading measured (test.Compare Lt i (Float one_and_half)) ≡ said (i64_is 2 operator.Lt (pos 4_609_434_218_613_702_656))
+  pub nan : reading measured (test.Compare Eq g (Float not_a_number)) ≡ unread
+  pub short : reading measured (test.Compare Lt f (Float short_half)) ≡ said (binary operator.Lt (here 3 i32) (literal (record { dtype = i32; value = Some (value.Primitive (number.I32 (pos 1_069_547_520))) })))
+  pub narrow : reading measured (test.Compare Lt w (Float one_and_half)) ≡ unread
+  pub with_null : reading measured (test.Compare Lt x Null) ≡ said (truth_literal None)
+  pub with_other : reading measured (test.Compare Lt x Other) ≡ unread
+  pub with_truth : reading measured (test.Compare Lt x (Truth true)) ≡ Err Misfit
+  pub with_text : reading measured (test.Compare Lt x (Text (codes "1.5"))) ≡ unread
+  pub with_clock : reading measured (test.Compare Lt x (clock (pos 1) 0)) ≡ Err Misfit
+  pub too_long : reading measured (test.Compare Lt x (number_of kind.Number (pos 1) 34)) ≡ unread
+  pub two_columns : reading measured (test.Compare Lt x x) ≡ unread
+  pub null_test : reading measured (test.IsNull x) ≡ said (is_null (here 0 i64))
+  pub number : nearest_over float.F64 (pos 15) 1 ≡ Some one_and_half → reading measured (test.Compare Lt x (half (pos 15))) ≡ said (i64_is 0 operator.Lt (pos 4_609_434_218_613_702_656))
+  pub no_float : nearest_over float.F64 (pos 15) 1 ≡ None → reading measured (test.Compare Lt x (half (pos 15))) ≡ unread
+
+-- a row of floats
+abbrev pub float_row : ℤ → List Constant
+float_row v =
+    record { dtype = i64; value = Some (value.Primitive (number.I64 v)) }
+    ∷ record { dtype = i64; value = Some (value.Primitive (number.I64 v)) }
+    ∷ record { dtype = i64; value = Some (value.Primitive (number.I64 v)) }
+    ∷ []
+
+pub record FloatCells : Type 0 where
+  pub same_floats : are_same_cells (cells.Floats float.F64 None) (cells.Floats float.F64 None) ≡ false
+  pub floats_and_values : are_same_cells (cells.Floats float.F64 None) cells.Values ≡ false
+  pub values_and_floats : are_same_cells cells.Values (cells.Floats float.F64 None) ≡ false
+  pub dates_and_floats : are_same_cells (cells.Exact logical.Date) (cells.Floats float.F64 None) ≡ false
+  pub values : are_same_cells cells.Values cells.Values ≡ true
+  pub cell : sql.item_of (cells.Floats float.F64 None) (value.Primitive (number.I64 (pos 7))) ≡ sql.float float.F64 None 7
+  pub below_zero : sql.item_of (cells.Floats float.F64 None) (value.Primitive (number.I64 (negsuc 1))) ≡ sql.float float.F64 None 9_223_372_036_854_775_809
+  pub unsaid : sql.meant None ≡ nan.Greatest
+  pub meant : sql.meant (Some nan.Ieee) ≡ nan.Ieee
+  pub literal : sql.value_in measured [] (Float 5) ≡ Some (sql.bits 5)
+  pub two_literals : item_cmp (sql.bits 5) (sql.bits 5) ≡ None
+  pub held : sql.item_holds Lt (sql.float float.F64 None 5) (sql.bits 7) ≡ Some (float_holds nan.Greatest float.F64 Lt 5 7)
+  pub held_ieee : sql.item_holds Gt (sql.float float.F32 (Some nan.Ieee) 5) (sql.bits 7) ≡ Some (float_holds nan.Ieee float.F32 Gt 5 7)
+  pub held_turned : sql.item_holds Lt (sql.bits 7) (sql.float float.F64 None 5) ≡ Some (float_holds nan.Greatest float.F64 Gt 5 7)

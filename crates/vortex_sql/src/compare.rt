@@ -3,9 +3,11 @@ ghost use Rattle.std.specs.Prelude.{◌≡◌, option_map};
 ghost use Rattle.vortex_sql.specs.Readings as spec;
 ghost use Rattle.vortex_sql.specs.Typing as typing;
 
+use crate::cells::Cells;
 use crate::column::column;
 use crate::comparison::{flipped, operator_of};
 use crate::fault::Fault;
+use crate::float::float_with;
 use crate::found::Found;
 use crate::literal::{constant, literals, said};
 use crate::number::{range_of, sized, step_of};
@@ -22,7 +24,8 @@ use vortex_logical::comparison::Comparison;
 use vortex_logical::exact::Exact;
 use vortex_logical::lower::compare_steps;
 
-fn comparing(
+/// Says a comparison of a column with an expression.
+pub(crate) fn comparing(
     alloc: Global,
     comparison: Comparison,
     found: Found,
@@ -44,14 +47,14 @@ fn with_exact(
     ptype: PType,
     literal: ExactNumber,
 ) -> Result<Option<BoundExpression>, Fault>
-    ensures { spec.Reads
-        (spec.exact_reading comparison (spec.field_of_found found) ptype found.dtype literal)
-        result }
+    ensures { spec.Reads (spec.exact_reading comparison (typing.logical_of found.cells)
+        (spec.place_of_found found) ptype found.dtype literal) result }
 {
     let Some(exact) = Exact::try_new(literal.top, literal.scale) else {
         return Ok(None);
     };
-    let test = compare_steps(step_of(found.logical), range_of(ptype), comparison, exact);
+    let step = step_of(found.cells.logical());
+    let test = compare_steps(step, range_of(ptype), comparison, exact);
     let value = ScalarValue::Primitive(sized(ptype, test.number));
     let literal = constant(alloc, found.dtype, value)?;
     comparing(alloc, test.comparison, found, literal)
@@ -66,13 +69,13 @@ fn with_kind(
     ptype: PType,
     literal: ExactNumber,
 ) -> Result<Option<BoundExpression>, Fault>
-    ensures { spec.Reads
-        (spec.with_kind comparison (spec.field_of_found found) ptype found.dtype literal)
-        result }
+    ensures { spec.Reads (spec.with_kind comparison (typing.logical_of found.cells)
+        (spec.place_of_found found) ptype found.dtype literal) result }
 {
-    match kind_fit(kind_of(found.logical), literal.kind) {
+    let logical = found.cells.logical();
+    match kind_fit(kind_of(logical), literal.kind) {
         KindFit::Same => with_exact(alloc, comparison, found, ptype, literal),
-        KindFit::Other if found.logical.is_some() => Err(Fault::Misfit),
+        KindFit::Other if logical.is_some() => Err(Fault::Misfit),
         KindFit::ByZone | KindFit::Other => Ok(None),
     }
 }
@@ -90,15 +93,16 @@ fn with_constant(
     comparing(alloc, comparison, found, literal)
 }
 
-/// Says a comparison of a column with an operand that is no column.
-pub(crate) fn with_literal(
+// Says a comparison of a column whose cells are values or exact numbers with an operand that is no
+// column.
+fn exact_with(
     alloc: Global,
     comparison: Comparison,
     found: Found,
     operand: &Operand,
 ) -> Result<Option<BoundExpression>, Fault>
-    ensures { spec.Reads
-        (spec.with_literal comparison (spec.field_of_found found) found.dtype operand.now) result }
+    ensures { spec.Reads (spec.exact_literal comparison (typing.logical_of found.cells)
+        (spec.place_of_found found) found.dtype operand.now) result }
 {
     match (operand, found.dtype) {
         (Operand::Other, _) => Ok(None),
@@ -118,6 +122,22 @@ pub(crate) fn with_literal(
             with_constant(alloc, comparison, found, value)
         }
         _ => Err(Fault::Misfit),
+    }
+}
+
+/// Says a comparison of a column with an operand that is no column.
+pub(crate) fn with_literal(
+    alloc: Global,
+    comparison: Comparison,
+    found: Found,
+    operand: &Operand,
+) -> Result<Option<BoundExpression>, Fault>
+    ensures { spec.Reads
+        (spec.with_literal comparison (spec.field_of_found found) found.dtype operand.now) result }
+{
+    match found.cells {
+        Cells::Floats(float, nan) => float_with(alloc, comparison, found, (float, nan), operand),
+        Cells::Values | Cells::Exact(_) => exact_with(alloc, comparison, found, operand),
     }
 }
 
@@ -143,7 +163,7 @@ fn with_place(
         return Ok(None);
     };
     if found.dtype.eq_ignore_nullability(&other.dtype)
-        && are_same_cells(found.logical, other.logical)
+        && are_same_cells(found.cells, other.cells)
     {
         let right = column(alloc, other)?;
         comparing(alloc, comparison, found, right)
@@ -218,8 +238,8 @@ pub(crate) fn compare(
 ) -> Result<Option<BoundExpression>, Fault>
     ensures { spec.Reads (spec.compare schema.now comparison left.now right.now) result }
 {
-    let typed_left = typed_by(schema, right, left);
-    let typed_right = typed_by(schema, left, right);
+    let typed_left = typed_by(alloc, schema, right, left)?;
+    let typed_right = typed_by(alloc, schema, left, right)?;
     let left = typed_or(&typed_left, left);
     let right = typed_or(&typed_right, right);
     compare_typed(alloc, schema, comparison, left, right)

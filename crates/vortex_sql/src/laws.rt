@@ -1,6 +1,7 @@
 //! Laws of this layer, in the words of its definitions. The functions carry them by their
 //! contracts.
 ghost use Rattle.vortex_sql.specs.Pruning.{ConfirmsCondition, RefutesCondition};
+ghost use Rattle.vortex_sql.specs.Worked.{FloatCells, FloatReadings};
 ghost use Rattle.vortex_sql.specs.Worked.{LeafNames, OrderExamples, OtherReadings, PatternExamples};
 ghost use Rattle.vortex_sql.specs.Worked.{ReadingExamples, TextReadings, TruthExamples};
 ghost use Rattle.vortex_sql.specs.Worked.{TypedReadings, TypedTruths};
@@ -28,4 +29,6 @@ pub fn examples_hold()
     ensures typed_texts { TextReadings }
     ensures typed_truths { TypedTruths }
     ensures names { LeafNames }
+    ensures floats { FloatReadings }
+    ensures float_cells { FloatCells }
 {}

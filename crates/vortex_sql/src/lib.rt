@@ -4,14 +4,17 @@
 //! nothing has to be known.
 #![tactic(auto)]
 
+pub mod cells;
 mod column;
 mod compare;
 mod comparison;
 pub mod condition;
 pub mod error;
 pub mod fault;
+mod float;
 pub mod found;
 mod halves;
+mod joined;
 pub mod laws;
 mod literal;
 pub mod lower;

@@ -95,7 +95,7 @@ pub(crate) fn has_value(operand: &Operand) -> Option<bool>
     ensures { result ≡ spec.has_value (spec.literal_of operand.now) }
 {
     match operand {
-        Operand::Column(_) | Operand::Other => None,
+        Operand::Column(_) | Operand::Float(_) | Operand::Other => None,
         Operand::Exact(number) if !is_whole(*number) => None,
         Operand::Null => Some(false),
         Operand::Truth(_) | Operand::Exact(_) | Operand::Text(_) | Operand::Binary(_) => {

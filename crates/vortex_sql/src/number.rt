@@ -9,8 +9,8 @@ use vortex_logical::cell_range::CellRange;
 use vortex_logical::exact::Step;
 use vortex_logical::logical_type::LogicalType;
 
-// Returns a number of a type that has it.
-fn in_type(ptype: PType, number: i128) -> Option<PValue>
+/// Returns a number of a type that has it.
+pub(crate) fn in_type(ptype: PType, number: i128) -> Option<PValue>
     ensures { result ≡ spec.in_type ptype number }
 {
     match ptype {

@@ -8,6 +8,7 @@ use crate::compare::{compare, with_literal};
 use crate::fault::Fault;
 use crate::found::Found;
 use crate::halves::joined;
+use crate::joined::joined_by;
 use crate::literal::{constant, distinct_literals, has_value, said};
 use crate::schema::Schema;
 use crate::syntax::tree::{Escape, Operand, Test};
@@ -21,21 +22,6 @@ use vortex_expr::bound;
 use vortex_expr::bound_expression::BoundExpression;
 use vortex_expr::scalar_fn::Operator;
 use vortex_logical::comparison::Comparison;
-
-// Joins two parts, if both are said.
-fn joined_by(
-    alloc: Global,
-    operator: Operator,
-    left: Option<BoundExpression>,
-    right: Option<BoundExpression>,
-) -> Result<Option<BoundExpression>, Fault>
-    ensures { spec.Reads (spec.joined_by operator (Ok left) (Ok right)) result }
-{
-    match (left, right) {
-        (Some(left), Some(right)) => Ok(Some(bound::binary(alloc, operator, left, right)?)),
-        _ => Ok(None),
-    }
-}
 
 fn as_truth(alloc: Global, found: Option<Found>) -> Result<Option<BoundExpression>, Fault>
     ensures { spec.Reads (spec.as_truth (option_map spec.field_of_found found)) result }
@@ -146,8 +132,8 @@ fn distinct(
 ) -> Result<Option<BoundExpression>, Fault>
     ensures { spec.Reads (spec.distinct_test schema.now left.now right.now) result }
 {
-    let typed_left = typed_by(schema, right, left);
-    let typed_right = typed_by(schema, left, right);
+    let typed_left = typed_by(alloc, schema, right, left)?;
+    let typed_right = typed_by(alloc, schema, left, right)?;
     let left = typed_or(&typed_left, left);
     let right = typed_or(&typed_right, right);
     distinct_typed(alloc, schema, left, right)

@@ -3,19 +3,18 @@ ghost use Rattle.std.specs.Prelude.{◌≡◌, option_map, slice_get};
 ghost use Rattle.vortex_sql.specs.Readings.{field_of_found};
 ghost use Rattle.vortex_sql.specs.Schemas as spec;
 
+use crate::cells::Cells;
 use crate::found::Found;
 use std::alloc::Global;
 use std::marker::Model;
 use vortex_base::scope::Scope;
 use vortex_base::text::Text;
-use vortex_logical::logical_type::LogicalType;
 
-/// The columns that a condition may name: those of a scope, and the logical types of columns whose
-/// cells stand for dates, times, timestamps or decimals.
+/// The columns that a condition may name: those of a scope, and what the cells of each stand for.
 #[derive(Drop)]
 pub struct Schema {
     scope: Scope,
-    logical: Vec<Option<LogicalType>>,
+    cells: Vec<Cells>,
 }
 
 impl Model for Schema {
@@ -23,18 +22,17 @@ impl Model for Schema {
 
     ghost Value = { SchemaData };
 
-    ghost view = { λ s. record { scope = s.scope; logical = s.logical.items } };
+    ghost view = { λ s. record { scope = s.scope; cells = s.cells.items } };
 }
 
 impl Schema {
-    /// Returns the columns of a scope with their logical types, in the order of the scope. The
-    /// cells of a column without one are the values themselves, and so are those of columns past
-    /// the end of the list.
-    pub fn new(scope: Scope, logical: Vec<Option<LogicalType>>) -> Schema
+    /// Returns the columns of a scope with what their cells stand for, in the order of the scope.
+    /// The cells of columns past the end of the list are the values themselves.
+    pub fn new(scope: Scope, cells: Vec<Cells>) -> Schema
         ensures scope { result.scope ≡ scope }
-        ensures logical { result.logical ≡ logical.items }
+        ensures cells { result.cells ≡ cells.items }
     {
-        Schema { scope, logical }
+        Schema { scope, cells }
     }
 
     /// Returns the columns of a scope whose cells are the values themselves.
@@ -43,7 +41,7 @@ impl Schema {
     {
         Schema {
             scope,
-            logical: Vec::new(alloc),
+            cells: Vec::new(alloc),
         }
     }
 
@@ -54,14 +52,13 @@ impl Schema {
         &self.scope
     }
 
-    /// Returns the logical type of the column at a place, or `None` where its cells are the values
-    /// themselves.
-    pub fn logical(&self, place: usize) -> Option<LogicalType>
-        ensures { result ≡ spec.listed (slice_get self.now.logical place) }
+    /// Returns what the cells of the column at a place stand for.
+    pub fn cells(&self, place: usize) -> Cells
+        ensures { result ≡ spec.listed (slice_get self.now.cells place) }
     {
-        match self.logical.get(place) {
-            Some(logical) => *logical,
-            None => None,
+        match self.cells.get(place) {
+            Some(cells) => *cells,
+            None => Cells::Values,
         }
     }
 
@@ -73,7 +70,7 @@ impl Schema {
             Some(index) => Some(Found {
                 index,
                 dtype: self.scope.dtype(index),
-                logical: self.logical(index),
+                cells: self.cells(index),
             }),
             None => None,
         }

@@ -85,7 +85,7 @@ impl Printer<'_> {
             Operand::Exact(number) => self.number(*number),
             Operand::Text(text) => self.quoted('\'', text.as_str()),
             Operand::Binary(bytes) => self.hexadecimal(bytes.as_slice()),
-            Operand::Other => Ok(()),
+            Operand::Float(_) | Operand::Other => Ok(()),
         }
     }
 

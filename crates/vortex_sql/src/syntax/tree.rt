@@ -31,6 +31,8 @@ pub enum Operand {
     Null,
     Truth(bool),
     Exact(ExactNumber),
+    /// The float of these bits, as which the column of floats beside it takes a number.
+    Float(u64),
     Text(Text),
     Binary(Bytes),
     /// Any other expression.

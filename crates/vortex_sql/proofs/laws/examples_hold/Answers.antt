@@ -1,4 +1,4 @@
-use Rattle.vortex_sql.proofs.WorkedRows.{leaf_names, orders, other_readings, patterns, readings, text_readings, truths, typed_readings, typed_truths}
+use Rattle.vortex_sql.proofs.WorkedRows.{float_cells, float_readings, leaf_names, orders, other_readings, patterns, readings, text_readings, truths, typed_readings, typed_truths}
 use Rattle.vortex_sql.proofs.laws.examples_hold.Goals as goal
 
 pub returns : goal.returns
@@ -12,4 +12,6 @@ returns c = record {
   typed_texts = text_readings;
   typed_truths = typed_truths;
   names = leaf_names;
+  floats = float_readings;
+  float_cells = float_cells;
 }
