@@ -6,6 +6,8 @@ use Rattle.vortex_logical.specs.declared.logical_type.LogicalType.TheVariants.{D
 use Rattle.vortex_logical.specs.declared.time_unit.TimeUnit.{TimeUnit}
 use Rattle.vortex_logical.specs.declared.time_unit.TimeUnit.TheVariants.{Seconds, Milliseconds, Microseconds, Nanoseconds}
 use Rattle.vortex_parquet.specs.Meanings.{decimal_type}
+use Rattle.vortex_sql.specs.declared.cells.Cells.{Cells}
+use Rattle.vortex_sql.specs.declared.cells.Cells.TheVariants.{Exact, Values}
 use Rattle.vortex_capi.specs.declared.field.Field.{Field}
 use Rattle.vortex_capi.specs.declared.status.Status.{Status}
 use Rattle.vortex_capi.specs.declared.status.Status.TheVariants.{BadKind}
@@ -56,9 +58,11 @@ or_bad_kind (Some t) = Ok (Some t)
 abbrev pub logical_of : Field → Result (Option LogicalType) Status
 logical_of f = if nat_le f.kind 11 then (if is_bare f then Ok None else Err BadKind) else or_bad_kind (logical_type_of f)
 
-abbrev pub unless_refused : Result (Option LogicalType) Status → Option LogicalType
-unless_refused (Ok t) = t
-unless_refused (Err s) = None
+abbrev pub unless_refused : Result (Option LogicalType) Status → Cells
+unless_refused (Ok (Some t)) = Exact t
+unless_refused (Ok None) = Values
+unless_refused (Err s) = Values
 
-abbrev pub logical_told : Field → Option LogicalType
-logical_told f = unless_refused (logical_of f)
+-- what the values of a column stand for, which isn't refused
+abbrev pub cells_told : Field → Cells
+cells_told f = unless_refused (logical_of f)

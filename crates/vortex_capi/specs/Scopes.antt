@@ -20,7 +20,7 @@ use Rattle.vortex_capi.specs.declared.status.Status.{Status}
 use Rattle.vortex_capi.specs.declared.status.Status.TheVariants.{BadKind, BadLength, BadLine, BadName, NoMemory, NotAPredicate, TooDeep}
 use Rattle.vortex_capi.specs.declared.logical.Kinds.{Kinds}
 use Rattle.vortex_capi.specs.declared.logical.Kinds.TheVariants.{Logical, Plain}
-use Rattle.vortex_capi.specs.LogicalKinds.{logical_of, logical_told}
+use Rattle.vortex_capi.specs.LogicalKinds.{logical_of, cells_told}
 use Rattle.vortex_capi.specs.Refusals.{followed, placed, stepped}
 use Rattle.vortex_capi.specs.Statuses.{at_column, nowhere}
 use Rattle.vortex_capi.specs.Types.{dtype_of}
@@ -72,7 +72,7 @@ filled_scope_given k fields = followed (scope_given k fields) filled
 
 -- the columns with what their values stand for
 abbrev pub schema_given : List Field → Result SchemaData Refusal
-schema_given fields = followed (filled_scope_given Logical fields) (λ scope. Ok (record { scope = scope; logical = map logical_told fields }))
+schema_given fields = followed (filled_scope_given Logical fields) (λ scope. Ok (record { scope = scope; cells = map cells_told fields }))
 
 -- ---- the predicate
 

@@ -2,19 +2,19 @@
 ghost use Rattle.std.specs.Prelude.{◌≡◌, ◌<◌, Ok, Some, length, map, slice_get};
 ghost use Rattle.vortex_base.specs.Data.Scopes.{named_columns};
 ghost use Rattle.vortex_capi.specs.Refusals.{Answers, Changes};
-ghost use Rattle.vortex_capi.specs.LogicalKinds.{logical_told};
+ghost use Rattle.vortex_capi.specs.LogicalKinds.{cells_told};
 ghost use Rattle.vortex_capi.specs.Scopes as spec;
 ghost use Rattle.vortex_syntax.specs.Names.{is_new};
 
 use crate::fault::Refusal;
-use crate::logical::{Kinds, logical_of, logical_told};
+use crate::logical::{Kinds, cells_told, logical_of};
 use crate::status::Status;
 use crate::types::dtype_of;
 use std::alloc::Global;
 use std::str;
 use vortex_base::dtype::DType;
 use vortex_base::scope::Scope;
-use vortex_logical::logical_type::LogicalType;
+use vortex_sql::cells::Cells;
 use vortex_sql::schema::Schema;
 use vortex_syntax::columns::Columns;
 use vortex_syntax::names::is_name;
@@ -112,15 +112,15 @@ fn scope_given(alloc: Global, kinds: Kinds, fields: &[Field<'_>]) -> Result<Scop
     Ok(Scope::new_unchecked(columns.into_vec()).try_shared(alloc)?)
 }
 
-// The types that the values of the columns stand for, or `None` for each of plain values.
-fn logical_types(alloc: Global, fields: &[Field<'_>]) -> Result<Vec<Option<LogicalType>>, Refusal>
-    ensures { Answers (λ types. types.items) result (Ok (map logical_told fields.now)) }
+// What the values of the columns stand for.
+fn all_cells(alloc: Global, fields: &[Field<'_>]) -> Result<Vec<Cells>, Refusal>
+    ensures { Answers (λ cells. cells.items) result (Ok (map cells_told fields.now)) }
 {
-    let mut types = Vec::with_capacity(alloc, fields.len())?;
+    let mut cells = Vec::with_capacity(alloc, fields.len())?;
     for field in fields {
-        types.push(logical_told(field))?;
+        cells.push(cells_told(field))?;
     }
-    Ok(types)
+    Ok(cells)
 }
 
 /// The columns that a caller names, with what their values stand for. `BadLength` where there is no
@@ -129,6 +129,6 @@ pub fn schema_given(alloc: Global, fields: &[Field<'_>]) -> Result<Schema, Refus
     ensures { Answers (λ schema. schema) result (spec.schema_given fields.now) }
 {
     let scope = scope_given(alloc, Kinds::Logical, fields)?;
-    let logical = logical_types(alloc, fields)?;
-    Ok(Schema::new(scope, logical))
+    let cells = all_cells(alloc, fields)?;
+    Ok(Schema::new(scope, cells))
 }

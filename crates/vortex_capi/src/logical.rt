@@ -7,6 +7,7 @@ use crate::status::Status;
 use vortex_logical::decimal::DecimalDType;
 use vortex_logical::logical_type::LogicalType;
 use vortex_logical::time_unit::TimeUnit;
+use vortex_sql::cells::Cells;
 
 /// Which kinds of columns a call takes.
 #[derive(Clone, Copy, Debug, PartialEq, Eq)]
@@ -127,12 +128,12 @@ pub(crate) fn logical_of(field: &Field<'_>) -> Result<Option<LogicalType>, Statu
     }
 }
 
-/// The type that the values of a column stand for, which isn't refused.
-pub(crate) fn logical_told(field: &Field<'_>) -> Option<LogicalType>
-    ensures { result ≡ spec.logical_told field.now }
+/// What the values of a column stand for, which isn't refused.
+pub(crate) fn cells_told(field: &Field<'_>) -> Cells
+    ensures { result ≡ spec.cells_told field.now }
 {
     match logical_of(field) {
-        Ok(logical) => logical,
-        Err(_) => None,
+        Ok(Some(logical)) => Cells::Exact(logical),
+        Ok(None) | Err(_) => Cells::Values,
     }
 }

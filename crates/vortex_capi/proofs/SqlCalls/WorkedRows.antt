@@ -13,7 +13,8 @@ use Rattle.vortex_capi.specs.declared.field.Field.{Field}
 use Rattle.vortex_capi.specs.declared.status.Status.TheVariants.{BadFlag, BadKind, BadLength, BadName, BadSql, Misfit, NoMemory, TooDeep}
 use Rattle.vortex_zone_map.proofs.WorkedRows.Witnesses.{IsWitness}
 use Rattle.vortex_sql.specs.declared.error.SqlError.TheVariants as sql
-use Rattle.vortex_logical.specs.declared.logical_type.LogicalType.{LogicalType}
+use Rattle.vortex_sql.specs.declared.cells.Cells.{Cells}
+use Rattle.vortex_sql.specs.declared.cells.Cells.TheVariants.{Exact, Values}
 use Rattle.vortex_logical.specs.declared.logical_type.LogicalType.TheVariants.{Date}
 use Rattle.vortex_sql.specs.declared.syntax.cursor.Names.{Names}
 use Rattle.vortex_sql.specs.declared.syntax.cursor.Names.TheVariants.{Last, Plain}
@@ -40,13 +41,13 @@ bytes_at xs = record { ref_ptr = (0, 0); now = xs }
 abbrev byte_field : ℕ → Field
 byte_field kind = record { name = bytes_at (97 ∷ []); kind = kind; nullable = 0; unit = 0; precision = 0; scale = 0 }
 
-abbrev bytes_by : DType → Option LogicalType → Names → Columns
-bytes_by t logical names = columns_by (record { scope = (97 ∷ [], t) ∷ []; logical = logical ∷ [] }) names
+abbrev bytes_by : DType → Cells → Names → Columns
+bytes_by t cells names = columns_by (record { scope = (97 ∷ [], t) ∷ []; cells = cells ∷ [] }) names
 
-asked : columns_asked (byte_field 2 ∷ []) (4 ∷ 4 ∷ []) 2 2 ≡ Ok (bytes_by (dtype.Primitive ptype.U8 NonNullable) None Last)
+asked : columns_asked (byte_field 2 ∷ []) (4 ∷ 4 ∷ []) 2 2 ≡ Ok (bytes_by (dtype.Primitive ptype.U8 NonNullable) Values Last)
 asked = refl
 
-asked_of_days : columns_asked (byte_field 12 ∷ []) (4 ∷ 4 ∷ []) 0 2 ≡ Ok (bytes_by (dtype.Primitive ptype.I32 NonNullable) (Some Date) Plain)
+asked_of_days : columns_asked (byte_field 12 ∷ []) (4 ∷ 4 ∷ []) 0 2 ≡ Ok (bytes_by (dtype.Primitive ptype.I32 NonNullable) (Exact Date) Plain)
 asked_of_days = refl
 
 flags_first : columns_asked [] (4 ∷ []) 3 0 ≡ Err (nowhere BadFlag)

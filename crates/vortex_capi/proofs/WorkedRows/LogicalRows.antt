@@ -7,9 +7,10 @@ use Rattle.vortex_logical.specs.declared.decimal.DecimalDType.{DecimalDType}
 use Rattle.vortex_logical.specs.declared.logical_type.LogicalType.TheVariants.{Date, Decimal, Time, Timestamp, TimestampTz}
 use Rattle.vortex_logical.specs.declared.time_unit.TimeUnit.TheVariants.{Seconds, Milliseconds, Microseconds, Nanoseconds}
 use Rattle.vortex_parquet.specs.Meanings.{decimal_type}
-use Rattle.vortex_capi.specs.LogicalKinds.{decimals_in, logical_of, logical_told, or_bad_kind}
+use Rattle.vortex_capi.specs.LogicalKinds.{decimals_in, logical_of, cells_told, or_bad_kind}
 use Rattle.vortex_capi.specs.Scopes.{schema_given, scope_given}
 use Rattle.vortex_capi.specs.Statuses.{at_column, nowhere}
+use Rattle.vortex_sql.specs.declared.cells.Cells.TheVariants.{Exact, Values}
 use Rattle.vortex_capi.specs.declared.field.Field.{Field}
 use Rattle.vortex_capi.specs.declared.logical.Kinds.TheVariants.{Logical, Plain}
 use Rattle.vortex_capi.specs.declared.status.Status.TheVariants.{BadKind, BadLength, BadName}
@@ -100,10 +101,10 @@ decimals d digits behind = ap (λ o. or_bad_kind (decimals_in o)) (of_digits 18 
 no_kind : logical_of (of_kind 17 0 0 0) ≡ Err BadKind
 no_kind = refl
 
-nothing_told : logical_told (of_kind 17 0 0 0) ≡ None
+nothing_told : cells_told (of_kind 17 0 0 0) ≡ Values
 nothing_told = refl
 
-days_told : logical_told (of_kind 12 0 0 0) ≡ Some Date
+days_told : cells_told (of_kind 12 0 0 0) ≡ Exact Date
 days_told = refl
 
 -- ---- columns
@@ -120,7 +121,7 @@ some_dates = refl
 
 plain_and_logical : schema_given (field (98 ∷ []) 10 1 ∷ of_kind 14 2 0 0 ∷ []) ≡ Ok (record {
   scope = (98 ∷ [], dtype.Utf8 Nullable) ∷ (97 ∷ [], dtype.Primitive ptype.I64 NonNullable) ∷ [];
-  logical = None ∷ Some (Timestamp Milliseconds) ∷ [];
+  cells = Values ∷ Exact (Timestamp Milliseconds) ∷ [];
 })
 plain_and_logical = refl
 

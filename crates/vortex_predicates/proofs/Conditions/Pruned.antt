@@ -63,7 +63,7 @@ module _ (law : ProofsTell) (s : SchemaData) (wide : List Named) (c : Condition)
   pub says_of : Says s c x.predicate
   says_of = subst (Says s c) (sym same) says
 
-  pub proofs_of : AreProofsOf (record { scope = s.scope; logical = s.logical; condition = c; predicate = x.predicate; falsifier = x.falsifier; satisfier = x.satisfier })
+  pub proofs_of : AreProofsOf (record { scope = s.scope; cells = s.cells; condition = c; predicate = x.predicate; falsifier = x.falsifier; satisfier = x.satisfier })
   proofs_of = record { says = says_of; refutes = told.0; confirms = told.1 }
 
 -- by built-in rules they have no column outside their placeholders

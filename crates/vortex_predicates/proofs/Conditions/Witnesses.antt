@@ -48,7 +48,7 @@ above_ten = Leaf' (record { test = test.Compare Gt (Column (codes "a")) (Exact (
 
 -- with its proofs by the built-in rules
 abbrev proved : ProvedCondition
-proved = record { scope = scope; logical = []; condition = above_ten; predicate = made.predicate; falsifier = made.falsifier; satisfier = made.satisfier }
+proved = record { scope = scope; cells = []; condition = above_ten; predicate = made.predicate; falsifier = made.falsifier; satisfier = made.satisfier }
 
 says : Says schema above_ten made.predicate
 says row f n of = lowered_says schema above_ten 1 refl row f n of

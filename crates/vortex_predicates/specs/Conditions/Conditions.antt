@@ -13,7 +13,7 @@ use Rattle.vortex_sql.specs.declared.syntax.tree.Leaf.{Leaf}
 use Rattle.vortex_sql.specs.declared.syntax.tree.Condition.{Condition}
 use Rattle.vortex_sql.specs.Lowering.{Says, opaques, types_of}
 use Rattle.vortex_sql.specs.Pruning.{Confirmed, Refuted}
-use Rattle.vortex_logical.specs.declared.logical_type.LogicalType.{LogicalType}
+use Rattle.vortex_sql.specs.declared.cells.Cells.{Cells}
 use Rattle.vortex_sql.specs.Readings.{bool_or_null}
 use Rattle.vortex_sql.specs.Schemas.{SchemaData}
 
@@ -56,7 +56,7 @@ max_levels = 128
 -- the predicate is the one that its proofs were made of
 pub record ProvedCondition : Type 0 where
   pub scope : List Named
-  pub logical : List (Option LogicalType)
+  pub cells : List Cells
   pub condition : Condition
   pub predicate : Tree Place
   pub falsifier : Option (Tree Place)
@@ -64,7 +64,7 @@ pub record ProvedCondition : Type 0 where
 
 -- the columns that it may name
 abbrev pub schema_of : ProvedCondition → SchemaData
-schema_of x = record { scope = x.scope; logical = x.logical }
+schema_of x = record { scope = x.scope; cells = x.cells }
 
 abbrev pub pruning_of : ProvedCondition → Pruning
 pruning_of x = record { predicate = x.predicate; falsifier = x.falsifier; satisfier = x.satisfier }

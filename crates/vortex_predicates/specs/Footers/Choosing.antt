@@ -4,7 +4,8 @@ use Rattle.std.specs.List.{list_all, list_any}
 use Rattle.vortex_base.specs.Data.Scopes.{Named, has_duplicate, is_state_column}
 use Rattle.vortex_base.specs.declared.dtype.DType.TheVariants as dtype
 use Rattle.vortex_base.specs.declared.types.Nullability.TheVariants.{Nullable}
-use Rattle.vortex_logical.specs.declared.logical_type.LogicalType.{LogicalType}
+use Rattle.vortex_sql.specs.declared.cells.Cells.{Cells}
+use Rattle.vortex_sql.specs.declared.cells.Cells.TheVariants as cells
 use Rattle.vortex_sql.specs.Schemas.{SchemaData}
 use Rattle.vortex_parquet.specs.Columns.{AreNamed, ColumnView, leaf_dtype, lookup}
 use Rattle.vortex_parquet.specs.declared.columns.Content.{Content}
@@ -60,14 +61,14 @@ is_read l = is_known l.meaning
 abbrev pub read_leaf : Leaf → Option Leaf
 read_leaf l = if is_read l then Some l else None
 
-abbrev pub logical_in : LeafMeaning → Option LogicalType
-logical_in meaning.Plain = None
-logical_in (meaning.Logical t) = Some t
-logical_in meaning.Opaque = None
+abbrev pub cells_in : LeafMeaning → Cells
+cells_in meaning.Plain = cells.Values
+cells_in (meaning.Logical t) = cells.Exact t
+cells_in meaning.Opaque = cells.Values
 
--- the logical type of a leaf column, if its cells aren't the values themselves
-abbrev pub logical_of : Leaf → Option LogicalType
-logical_of l = logical_in l.meaning
+-- what the cells of a leaf column stand for
+abbrev pub cells_of : Leaf → Cells
+cells_of l = cells_in l.meaning
 
 abbrev pub leaf_in : Option Content → Option Leaf
 leaf_in (Some (content.Leaf l)) = read_leaf l
@@ -99,6 +100,6 @@ no_leaf count = record { place = count; physical = 0; form = form.Bool; meaning 
 abbrev pub IsScopeFor : List ColumnView → ℕ → List MentionData → List Named → List Leaf → Type 0
 IsScopeFor cs count ms scope ls = AreChosen cs ms scope ls ⊎ (AreChosen cs ms [] [] × (scope ≡ no_column ∷ []) × (ls ≡ no_leaf count ∷ []))
 
--- so with the logical types of their leaves
+-- so with what the cells of their leaves stand for
 abbrev pub IsSchemaFor : List ColumnView → ℕ → List MentionData → SchemaData → List Leaf → Type 0
-IsSchemaFor cs count ms s ls = IsScopeFor cs count ms s.scope ls × (s.logical ≡ map logical_of ls)
+IsSchemaFor cs count ms s ls = IsScopeFor cs count ms s.scope ls × (s.cells ≡ map cells_of ls)

@@ -12,9 +12,9 @@ use std::alloc::{AllocError, Global};
 use vortex_base::dtype::DType;
 use vortex_base::scope::Scope;
 use vortex_base::types::Nullability;
-use vortex_logical::logical_type::LogicalType;
 use vortex_parquet::columns::{Column, Content, Form, Leaf, LeftOut, lookup};
 use vortex_parquet::meaning::LeafMeaning;
+use vortex_sql::cells::Cells;
 use vortex_sql::schema::Schema;
 use vortex_sql::syntax::tree::Condition;
 use vortex_syntax::columns::Columns;
@@ -49,25 +49,25 @@ fn is_known(meaning: LeafMeaning) -> bool
     }
 }
 
-// Returns the logical type of a leaf column, if its cells aren't the values themselves.
-fn logical_of(leaf: &Leaf) -> Option<LogicalType>
-    ensures { result ≡ spec.logical_of leaf.now }
+// Returns what the cells of a leaf column stand for.
+fn cells_of(leaf: &Leaf) -> Cells
+    ensures { result ≡ spec.cells_of leaf.now }
 {
     match leaf.meaning {
-        LeafMeaning::Logical(logical) => Some(logical),
-        LeafMeaning::Plain | LeafMeaning::Opaque => None,
+        LeafMeaning::Logical(logical) => Cells::Exact(logical),
+        LeafMeaning::Plain | LeafMeaning::Opaque => Cells::Values,
     }
 }
 
-// Returns the logical types of leaf columns, in their order.
-fn logical_types(alloc: Global, leaves: &[Leaf]) -> Result<Vec<Option<LogicalType>>, AllocError>
-    ensures { IfOk result (λ types. types.items ≡ map spec.logical_of leaves.now) }
+// Returns what the cells of leaf columns stand for, in their order.
+fn all_cells(alloc: Global, leaves: &[Leaf]) -> Result<Vec<Cells>, AllocError>
+    ensures { IfOk result (λ cells. cells.items ≡ map spec.cells_of leaves.now) }
 {
-    let mut types = Vec::with_capacity(alloc, leaves.len())?;
+    let mut cells = Vec::with_capacity(alloc, leaves.len())?;
     for leaf in leaves {
-        types.push(logical_of(leaf))?;
+        cells.push(cells_of(leaf))?;
     }
-    Ok(types)
+    Ok(cells)
 }
 
 // Returns the leaf whose tests are read.
@@ -224,9 +224,9 @@ pub(crate) fn schema_for(
     let chosen = chosen_of(alloc, columns, condition)?;
     let Chosen { columns, leaves } = filled(alloc, chosen, count)?;
     let scope = Scope::new_unchecked(columns.into_vec()).try_shared(alloc)?;
-    let logical = logical_types(alloc, &leaves)?;
+    let cells = all_cells(alloc, &leaves)?;
     Ok(Scoped {
-        schema: Schema::new(scope, logical),
+        schema: Schema::new(scope, cells),
         leaves,
     })
 }

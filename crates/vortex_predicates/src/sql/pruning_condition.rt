@@ -60,7 +60,7 @@ impl Model for PruningCondition {
 
     ghost view = { λ x. record {
       scope = x.schema.scope;
-      logical = x.schema.logical;
+      cells = x.schema.cells;
       condition = x.sql.condition;
       predicate = x.proofs.predicate;
       falsifier = x.proofs.falsifier;
@@ -70,7 +70,7 @@ impl Model for PruningCondition {
     ghost invariant = { λ x.
         let seen : ProvedCondition = record {
           scope = x.schema.scope;
-          logical = x.schema.logical;
+          cells = x.schema.cells;
           condition = x.sql.condition;
           predicate = x.proofs.predicate;
           falsifier = x.proofs.falsifier;
