@@ -5,6 +5,8 @@ use jiff::tz::Offset;
 use std::alloc::{AllocError, Global};
 use vortex_base::pvalue::PValue;
 use vortex_base::scalar_value::ScalarValue;
+use vortex_floats::cells::bits_at;
+use vortex_logical::float_type::FloatType;
 use vortex_logical::logical_type::LogicalType;
 use vortex_logical::time_unit::TimeUnit;
 use vortex_parquet::meaning::LeafMeaning;
@@ -79,6 +81,23 @@ fn logical_text(alloc: Global, logical: LogicalType, number: i64) -> Result<Stri
     }
 }
 
+// Returns the float that a whole number stands for, in the fewest digits that tell it from others
+// of its type.
+fn float_text(alloc: Global, float: FloatType, number: i64) -> Result<String, AllocError> {
+    let bits = bits_at(float, number);
+    match float {
+        FloatType::F16 => format!(in alloc; "{number}"),
+        FloatType::F32 => {
+            let value = f32::from_bits(bits as u32);
+            format!(in alloc; "{value}")
+        }
+        FloatType::F64 => {
+            let value = f64::from_bits(bits);
+            format!(in alloc; "{value}")
+        }
+    }
+}
+
 // Returns a number as it is kept.
 fn number_text(alloc: Global, number: PValue) -> Result<String, AllocError> {
     match number {
@@ -107,6 +126,12 @@ pub fn value_text(
         }
         (ScalarValue::Primitive(PValue::I64(n)), LeafMeaning::Logical(logical)) => {
             logical_text(alloc, logical, *n)
+        }
+        (ScalarValue::Primitive(PValue::I32(n)), LeafMeaning::Float(float)) => {
+            float_text(alloc, float, i64::from(*n))
+        }
+        (ScalarValue::Primitive(PValue::I64(n)), LeafMeaning::Float(float)) => {
+            float_text(alloc, float, *n)
         }
         (ScalarValue::Primitive(number), _) => number_text(alloc, *number),
         (ScalarValue::Utf8(text), _) => format!(in alloc; "{:?}", text.as_str()),

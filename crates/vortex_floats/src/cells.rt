@@ -1,6 +1,7 @@
 //! Comparisons with a float as tests of the whole numbers of cells.
 ghost use Rattle.std.specs.Prelude.{◌≡◌, IfSome};
 ghost use Rattle.vortex_floats.specs.Cells as spec;
+ghost use Rattle.vortex_logical.specs.Floats as floats;
 
 use vortex_logical::comparison::Comparison;
 use vortex_logical::float_test::{FloatTest, NanMeaning};
@@ -24,15 +25,81 @@ fn is_told(nan: Option<NanMeaning>, comparison: Comparison) -> bool
     }
 }
 
-// Returns the whole number of infinity.
-fn infinity_key(float: FloatType) -> i64
-    ensures { result ≡ spec.infinity_key float }
+// Returns the bit of the sign.
+fn sign_bit(float: FloatType) -> u64
+    ensures { result ≡ floats.sign_bit float }
+{
+    match float {
+        FloatType::F16 => 0x8000,
+        FloatType::F32 => 0x8000_0000,
+        FloatType::F64 => 0x8000_0000_0000_0000,
+    }
+}
+
+// Returns the bits of infinity.
+fn infinity_bits(float: FloatType) -> u64
+    ensures { result ≡ floats.infinity_bits float }
 {
     match float {
         FloatType::F16 => 0x7C00,
         FloatType::F32 => 0x7F80_0000,
         FloatType::F64 => 0x7FF0_0000_0000_0000,
     }
+}
+
+// Returns the bits of the NaN that stands for all.
+fn nan_bits(float: FloatType) -> u64
+    ensures { result ≡ floats.nan_bits float }
+{
+    match float {
+        FloatType::F16 => 0x7E00,
+        FloatType::F32 => 0x7FC0_0000,
+        FloatType::F64 => 0x7FF8_0000_0000_0000,
+    }
+}
+
+// Returns the bits of the float that a number of at least 0 stands for.
+fn above_zero(float: FloatType, cell: u64) -> u64
+    ensures { result ≡ spec.above_zero float cell }
+{
+    if cell <= infinity_bits(float) {
+        cell
+    } else if cell < nan_bits(float) {
+        infinity_bits(float)
+    } else {
+        nan_bits(float)
+    }
+}
+
+// Returns the bits of the float below 0 of so many steps, or of -infinity where there are more.
+fn below_zero(float: FloatType, steps: u64) -> u64
+    ensures { result ≡ spec.below_zero float steps }
+{
+    if steps <= infinity_bits(float) {
+        return sign_bit(float) + steps;
+    }
+    sign_bit(float) + infinity_bits(float)
+}
+
+/// Returns the bits of the float that a cell stands for. A number that is that of no float stands
+/// for one beside it.
+pub fn bits_at(float: FloatType, cell: i64) -> u64
+    ensures { result ≡ spec.bits_at float cell }
+{
+    if cell >= 0 {
+        return above_zero(float, cell as u64);
+    }
+    if cell == -1 {
+        return below_zero(float, 1);
+    }
+    below_zero(float, (-1 - cell) as u64)
+}
+
+// Returns the whole number of infinity.
+fn infinity_key(float: FloatType) -> i64
+    ensures { result ≡ spec.infinity_key float }
+{
+    infinity_bits(float) as i64
 }
 
 // Tells whether a whole number is that of a finite float, beside which each cell's float lies where

@@ -36,8 +36,7 @@ fn bits_of(number: f32) -> u64
 // the same number: engines that round to 64 bits first say the same.
 fn nearest_single(text: &[u8]) -> Option<u64>
     ensures float { spec.AreBits binary32 (spec.single_of text.now) result }
-    ensures bits {
-        result ≡ option_map (float_bits binary32 spec.nan32) (spec.single_of text.now) }
+    ensures bits { result ≡ option_map (float_bits binary32 spec.nan32) (spec.single_of text.now) }
 {
     match (
         fast_float::parse::<f32, _>(text),

@@ -1,5 +1,5 @@
 //! Comparisons of floats with numbers, with bits from Python's struct.
-use crate::cells::compare_cells;
+use crate::cells::{bits_at, compare_cells};
 use crate::nearest::{compare_number, nearest};
 use std::alloc::Global;
 use std::process::Abort;
@@ -76,6 +76,30 @@ fn numbers_compare_with_cells(rt: HostRuntime) {
     // Nothing says whether NaN is greater than 0.1.
     let found = compare_number(alloc, double, None, gt, tenth).unwrap_or(None);
     assert!(rt; found.is_none());
+}
+
+#[test]
+fn cells_stand_for_floats_by_their_bits(rt: HostRuntime) {
+    let (single, double) = (FloatType::F32, FloatType::F64);
+    for bits in [
+        0,
+        1,
+        0x3FF8_0000_0000_0000,
+        0x7FF0_0000_0000_0000,
+        0x8000_0000_0000_0001,
+        0xC000_0000_0000_0000,
+        0xFFF0_0000_0000_0000,
+    ] {
+        assert!(rt; bits_at(double, double.key(bits)) == bits);
+    }
+    assert!(rt; bits_at(single, single.key(0xC000_0000)) == 0xC000_0000);
+    // -0.0 is 0.0, and each NaN the one that stands for all.
+    assert!(rt; bits_at(double, double.key(0x8000_0000_0000_0000)) == 0);
+    assert!(rt; bits_at(double, double.key(0xFFF0_0000_0000_0001)) == 0x7FF8_0000_0000_0000);
+    // Numbers of no float stand for one beside them.
+    assert!(rt; bits_at(double, -1) == 0x8000_0000_0000_0001);
+    assert!(rt; bits_at(single, i64::MAX) == 0x7FC0_0000);
+    assert!(rt; bits_at(single, i64::MIN) == 0xFF80_0000);
 }
 
 #[test]

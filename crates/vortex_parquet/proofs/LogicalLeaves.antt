@@ -20,8 +20,10 @@ use Rattle.vortex_parquet.specs.declared.meaning.LeafMeaning.TheVariants as mean
 use Rattle.vortex_parquet.specs.declared.records.Annotation.{Annotation}
 use Rattle.vortex_parquet.specs.declared.records.Annotation.TheVariants as annotation
 use Rattle.vortex_parquet.specs.Records.{is_number}
-use Rattle.vortex_parquet.specs.Columns.{annotation_of, bool_form, bytes_form, eight, fixed_form, form_of, four, is_short, leaf_of, nullability, ◌>=>◌}
-use Rattle.vortex_parquet.specs.LogicalLeaves.{AreCells, IsWithin, LogicalLeaves, bits_32}
+use Rattle.vortex_parquet.specs.Columns.{annotation_of, bool_form, bytes_form, eight, fixed_form, float_form, form_of, four, is_short, leaf_of, nullability, ◌>=>◌}
+use Rattle.vortex_logical.specs.declared.float_type.FloatType.{FloatType}
+use Rattle.vortex_logical.specs.declared.float_type.FloatType.TheVariants.{F32, F64}
+use Rattle.vortex_parquet.specs.LogicalLeaves.{AreCells, FloatLeaves, IsWithin, LogicalLeaves, bits_32}
 use Rattle.vortex_parquet.specs.Meanings.{decimal_if, decimal_type, decimals_or, meaning_of, most_digits, proof_le, time_meaning, timestamp_meaning, told_decimals, whole_meaning}
 
 widened : IsWithin bits_32 bits_64
@@ -50,20 +52,20 @@ either true x y h k = h
 either false x y h k = k
 
 time_form : (physical : ℕ) (u : Option TimeUnit) → AreSigned (form_of physical (annotation.Time u))
-unfolding form_of bool_form four eight bytes_form fixed_form
+unfolding form_of bool_form four eight float_form bytes_form fixed_form
 time_form physical u =
-    either (physical == 0) _ _ tt (either (physical == 1) _ _ tt (either (physical == 2) _ _ tt (either (physical == 6) _ _ tt (either (physical == 7) _ _ tt tt))))
+    either (physical == 0) _ _ tt (either (physical == 1) _ _ tt (either (physical == 2) _ _ tt (either (physical == 4) _ _ tt (either (physical == 5) _ _ tt (either (physical == 6) _ _ tt (either (physical == 7) _ _ tt tt))))))
 
 timestamp_form : (physical : ℕ) (a : Option Bool) (u : Option TimeUnit) → AreSigned (form_of physical (annotation.Timestamp a u))
-unfolding form_of bool_form four eight bytes_form fixed_form
+unfolding form_of bool_form four eight float_form bytes_form fixed_form
 timestamp_form physical a u =
-    either (physical == 0) _ _ tt (either (physical == 1) _ _ tt (either (physical == 2) _ _ tt (either (physical == 6) _ _ tt (either (physical == 7) _ _ tt tt))))
+    either (physical == 0) _ _ tt (either (physical == 1) _ _ tt (either (physical == 2) _ _ tt (either (physical == 4) _ _ tt (either (physical == 5) _ _ tt (either (physical == 6) _ _ tt (either (physical == 7) _ _ tt tt))))))
 
 decimal_forms : (physical : ℕ) (scale precision : Option ℕ) → AreSigned (form_of physical (annotation.Decimal scale precision))
-unfolding form_of bool_form four eight bytes_form fixed_form
+unfolding form_of bool_form four eight float_form bytes_form fixed_form
 decimal_forms physical scale precision =
     let bytes = either (is_short precision) (Some form.Decimal) None tt tt in
-    either (physical == 0) _ _ tt (either (physical == 1) _ _ tt (either (physical == 2) _ _ tt (either (physical == 6) _ _ bytes (either (physical == 7) _ _ bytes tt))))
+    either (physical == 0) _ _ tt (either (physical == 1) _ _ tt (either (physical == 2) _ _ tt (either (physical == 4) _ _ tt (either (physical == 5) _ _ tt (either (physical == 6) _ _ bytes (either (physical == 7) _ _ bytes tt))))))
 
 signed_form : (o : Option Form) (f : Form) → o ≡ Some f → AreSigned o → IsSigned f
 signed_form o f e h = subst AreSigned e h
@@ -147,6 +149,72 @@ decimals : (b : Bool) (o : Option DecimalDType) (t : LogicalType) → ((d : Deci
 decimals b None t known h = absurd (whole_none b t h)
 decimals b (Some d) t known h = ap range (sym (same_type (logical.Decimal d) t h)) ∙ short_range d (known d refl)
 
+-- ---- floats
+
+bare_none : (a b : Bool) (t : LogicalType) → (if a then meaning.Float F32 else (if b then meaning.Float F64 else meaning.Plain)) ≡ meaning.Logical t → ⊥
+bare_none true b t h = cc
+bare_none false true t h = cc
+bare_none false false t h = cc
+
+float_or : FloatType → LeafMeaning → FloatType
+float_or s (meaning.Float t) = t
+float_or s m = s
+
+same_float : (s t : FloatType) → meaning.Float s ≡ meaning.Float t → s ≡ t
+unfolding float_or
+same_float s t h = ap (float_or s) h
+
+decimals_no_float : (o : Option DecimalDType) (b : Bool) (t : FloatType) → decimals_or (whole_meaning b) o ≡ meaning.Float t → ⊥
+decimals_no_float None true t h = cc
+decimals_no_float None false t h = cc
+decimals_no_float (Some d) b t h = cc
+
+days_no_float : (b : Bool) (t : FloatType) → (if b then meaning.Logical logical.Date else meaning.Opaque) ≡ meaning.Float t → ⊥
+days_no_float true t h = cc
+days_no_float false t h = cc
+
+chosen_no_float : (b : Bool) (s : LogicalType) (t : FloatType) → (if b then meaning.Logical s else meaning.Opaque) ≡ meaning.Float t → ⊥
+chosen_no_float true s t h = cc
+chosen_no_float false s t h = cc
+
+times_no_float : (physical : ℕ) (u : Option TimeUnit) (t : FloatType) → time_meaning physical u ≡ meaning.Float t → ⊥
+times_no_float physical (Some unit.Milliseconds) t h = chosen_no_float (physical == 1) (logical.Time unit.Milliseconds) t h
+times_no_float physical (Some unit.Microseconds) t h = chosen_no_float (physical == 2) (logical.Time unit.Microseconds) t h
+times_no_float physical (Some unit.Nanoseconds) t h = chosen_no_float (physical == 2) (logical.Time unit.Nanoseconds) t h
+times_no_float physical (Some unit.Seconds) t h = cc
+times_no_float physical None t h = cc
+
+stamps_no_float : (b : Bool) (a : Option Bool) (u : Option TimeUnit) (t : FloatType) → (if b then timestamp_meaning a u else meaning.Opaque) ≡ meaning.Float t → ⊥
+stamps_no_float true (Some true) (Some u) t h = cc
+stamps_no_float true (Some false) (Some u) t h = cc
+stamps_no_float true (Some true) None t h = cc
+stamps_no_float true (Some false) None t h = cc
+stamps_no_float true None u t h = cc
+stamps_no_float false a u t h = cc
+
+floats_by : (physical : ℕ) (a b : Bool) (f : Form) (t : FloatType) → (physical == 4) ≡ a → (physical == 5) ≡ b → form_of physical annotation.None ≡ Some f
+    → (if a then meaning.Float F32 else (if b then meaning.Float F64 else meaning.Plain)) ≡ meaning.Float t → f ≡ form.Float t
+unfolding form_of float_form
+floats_by physical true b f t four five h m =
+    let here : form_of 4 annotation.None ≡ Some f = subst (λ n. form_of n annotation.None ≡ Some f) (eqb-true physical 4 four) h in
+    sym (same_Some (form.Float F32) f here) ∙ ap form.Float (same_float F32 t m)
+floats_by physical false true f t four five h m =
+    let here : form_of 5 annotation.None ≡ Some f = subst (λ n. form_of n annotation.None ≡ Some f) (eqb-true physical 5 five) h in
+    sym (same_Some (form.Float F64) f here) ∙ ap form.Float (same_float F64 t m)
+floats_by physical false false f t four five h m = cc
+
+floats : (physical : ℕ) (a : Annotation) (f : Form) (t : FloatType) → form_of physical a ≡ Some f → meaning_of physical a ≡ meaning.Float t → f ≡ form.Float t
+unfolding meaning_of
+floats physical annotation.Date f t h m = absurd (days_no_float (physical == 1) t m)
+floats physical (annotation.Time u) f t h m = absurd (times_no_float physical u t m)
+floats physical (annotation.Timestamp a u) f t h m = absurd (stamps_no_float (physical == 2) a u t m)
+floats physical (annotation.Decimal s p) f t h m = absurd (decimals_no_float (told_decimals (most_digits physical) s p) (is_number 0 s) t m)
+floats physical annotation.None f t h m = floats_by physical (physical == 4) (physical == 5) f t refl refl h m
+floats physical annotation.Text f t h m = cc
+floats physical (annotation.Integer bits signed) f t h m = cc
+floats physical annotation.Bytes f t h m = cc
+floats physical annotation.Other f t h m = cc
+
 -- ---- leaves
 
 cells : (physical : ℕ) (a : Annotation) (f : Form) (t : LogicalType) → form_of physical a ≡ Some f → meaning_of physical a ≡ meaning.Logical t → AreCells t f
@@ -160,33 +228,44 @@ cells physical (annotation.Decimal s p) f t h m =
     let short : (d : DecimalDType) → told_decimals (most_digits physical) s p ≡ Some d → d.precision ≤ 18 =
     λ d e. at_most_18 (physical == 1) d.precision (told_few (most_digits physical) s p d e) in
     wide t (decimals (is_number 0 s) (told_decimals (most_digits physical) s p) t short m) f (signed_form (form_of physical (annotation.Decimal s p)) f h (decimal_forms physical s p))
-cells physical a f t h m = cc
+cells physical annotation.None f t h m = absurd (bare_none (physical == 4) (physical == 5) t m)
+cells physical annotation.Text f t h m = cc
+cells physical (annotation.Integer bits signed) f t h m = cc
+cells physical annotation.Bytes f t h m = cc
+cells physical annotation.Other f t h m = cc
 
 abbrev leaf_with : (place physical : ℕ) → Annotation → Nullability → Form → Leaf
 leaf_with place physical a n f = record { place = place; physical = physical; form = f; meaning = meaning_of physical a; nullability = n }
 
-by_form : (place physical : ℕ) (a : Annotation) (n : Nullability) (o : Option Form) (l : Leaf) (t : LogicalType) → form_of physical a ≡ o
-    → (o >=> λ f. Some (leaf_with place physical a n f)) ≡ Some l → l.meaning ≡ meaning.Logical t → AreCells t l.form
-by_form place physical a n None l t e h m = cc
-by_form place physical a n (Some f) l t e h m =
-    let same : leaf_with place physical a n f ≡ l = same_Some (leaf_with place physical a n f) l h in
-    subst (λ (x : Leaf). AreCells t x.form) same (cells physical a f t e (ap (λ (x : Leaf). x.meaning) same ∙ m))
+-- what holds of the meaning and the form of each physical type with an annotation holds of each leaf
+module _ (P : LeafMeaning → Form → Type 0) (known : (physical : ℕ) (a : Annotation) (f : Form) → form_of physical a ≡ Some f → P (meaning_of physical a) f) where
+  abbrev Holds : Leaf → Type 0
+  Holds l = P l.meaning l.form
 
-by_nullability : (place physical : ℕ) (a : Annotation) (o : Option Nullability) (l : Leaf) (t : LogicalType)
-    → (o >=> λ n. form_of physical a >=> λ f. Some (leaf_with place physical a n f)) ≡ Some l → l.meaning ≡ meaning.Logical t → AreCells t l.form
-by_nullability place physical a None l t h m = cc
-by_nullability place physical a (Some n) l t h m = by_form place physical a n (form_of physical a) l t refl h m
+  by_form : (place physical : ℕ) (a : Annotation) (n : Nullability) (o : Option Form) (l : Leaf) → form_of physical a ≡ o
+      → (o >=> λ f. Some (leaf_with place physical a n f)) ≡ Some l → Holds l
+  by_form place physical a n None l e h = cc
+  by_form place physical a n (Some f) l e h = subst Holds (same_Some (leaf_with place physical a n f) l h) (known physical a f e)
 
-by_repetition : (place physical : ℕ) (a : Annotation) (o : Option ℕ) (l : Leaf) (t : LogicalType)
-    → (o >=> λ repetition. nullability repetition >=> λ n. form_of physical a >=> λ f. Some (leaf_with place physical a n f)) ≡ Some l → l.meaning ≡ meaning.Logical t → AreCells t l.form
-by_repetition place physical a None l t h m = cc
-by_repetition place physical a (Some repetition) l t h m = by_nullability place physical a (nullability repetition) l t h m
+  by_nullability : (place physical : ℕ) (a : Annotation) (o : Option Nullability) (l : Leaf)
+      → (o >=> λ n. form_of physical a >=> λ f. Some (leaf_with place physical a n f)) ≡ Some l → Holds l
+  by_nullability place physical a None l h = cc
+  by_nullability place physical a (Some n) l h = by_form place physical a n (form_of physical a) l refl h
 
-by_physical : (place : ℕ) (a : Annotation) (o r : Option ℕ) (l : Leaf) (t : LogicalType)
-    → (o >=> λ physical. r >=> λ repetition. nullability repetition >=> λ n. form_of physical a >=> λ f. Some (leaf_with place physical a n f)) ≡ Some l → l.meaning ≡ meaning.Logical t → AreCells t l.form
-by_physical place a None r l t h m = cc
-by_physical place a (Some physical) r l t h m = by_repetition place physical a r l t h m
+  by_repetition : (place physical : ℕ) (a : Annotation) (o : Option ℕ) (l : Leaf)
+      → (o >=> λ repetition. nullability repetition >=> λ n. form_of physical a >=> λ f. Some (leaf_with place physical a n f)) ≡ Some l → Holds l
+  by_repetition place physical a None l h = cc
+  by_repetition place physical a (Some repetition) l h = by_nullability place physical a (nullability repetition) l h
+
+  by_physical : (place : ℕ) (a : Annotation) (o r : Option ℕ) (l : Leaf)
+      → (o >=> λ physical. r >=> λ repetition. nullability repetition >=> λ n. form_of physical a >=> λ f. Some (leaf_with place physical a n f)) ≡ Some l → Holds l
+  by_physical place a None r l h = cc
+  by_physical place a (Some physical) r l h = by_repetition place physical a r l h
 
 pub logical_leaves : LogicalLeaves
 unfolding leaf_of
-logical_leaves place e l t h m = by_physical place (annotation_of e.annotation e.converted e.scale e.precision) e.physical e.repetition l t h m
+logical_leaves place e l t h = by_physical (λ m f. m ≡ meaning.Logical t → AreCells t f) (λ physical a f is. cells physical a f t is) place (annotation_of e.annotation e.converted e.scale e.precision) e.physical e.repetition l h
+
+pub float_leaves : FloatLeaves
+unfolding leaf_of
+float_leaves place e l t h = by_physical (λ m f. m ≡ meaning.Float t → f ≡ form.Float t) (λ physical a f is. floats physical a f t is) place (annotation_of e.annotation e.converted e.scale e.precision) e.physical e.repetition l h

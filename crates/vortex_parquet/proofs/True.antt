@@ -15,7 +15,7 @@ use Rattle.vortex_parquet.specs.Reading.{◌>>=◌}
 use Rattle.vortex_parquet.specs.Fields.{on_found}
 use Rattle.vortex_parquet.specs.Records.{ColumnChunkData, StatisticsData, chunk_of, is_number}
 use Rattle.vortex_parquet.specs.Columns.{is_signed}
-use Rattle.vortex_parquet.specs.Stats.{Entries, all_of, bound_of, chosen, chunk_set, count_of, leaf_set, or_false, precise, set_of, set_or_none, span_set, statistics_by, told, value_of}
+use Rattle.vortex_parquet.specs.Stats.{Entries, all_of, bound_by, chosen, chunk_set, count_of, greatest_value, leaf_set, or_false, precise, set_of, set_or_none, span_set, statistics_by, told, value_of}
 use Rattle.vortex_parquet.specs.Truth.{AreTrue, AreTrueOf, AreTrueSets, Fit, TrueGroups}
 use Rattle.vortex_parquet.proofs.Sound.{bind_ok, one_ok}
 
@@ -31,28 +31,28 @@ precise_min false None xs h = tt
 precise_min true (Some v) xs h = let k = h v refl in (k.1 refl, k.0)
 precise_min false (Some v) xs h = (h v refl).0
 
-old_max_true : (f : Form) (signed : Bool) (older : Option (List ℕ)) (xs : List (Option ScalarValue)) → (signed ≡ true → (b : List ℕ) (v : ScalarValue) → older ≡ Some b → value_of f b ≡ Some v → NoneAbove v xs) → ClaimsMax (bound_of f (cond signed (told older false) None)) xs
+old_max_true : (f : Form) (signed : Bool) (older : Option (List ℕ)) (xs : List (Option ScalarValue)) → (signed ≡ true → (b : List ℕ) (v : ScalarValue) → older ≡ Some b → greatest_value f b ≡ Some v → NoneAbove v xs) → ClaimsMax (bound_by (greatest_value f) (cond signed (told older false) None)) xs
 old_max_true f false older xs h = tt
 old_max_true f true None xs h = tt
-old_max_true f true (Some b) xs h = precise_max false (value_of f b) xs (λ v e. (h refl b v refl e, λ t. absurd cc))
+old_max_true f true (Some b) xs h = precise_max false (greatest_value f b) xs (λ v e. (h refl b v refl e, λ t. absurd cc))
 
-old_min_true : (f : Form) (signed : Bool) (older : Option (List ℕ)) (xs : List (Option ScalarValue)) → (signed ≡ true → (b : List ℕ) (v : ScalarValue) → older ≡ Some b → value_of f b ≡ Some v → NoneBelow v xs) → ClaimsMin (bound_of f (cond signed (told older false) None)) xs
+old_min_true : (f : Form) (signed : Bool) (older : Option (List ℕ)) (xs : List (Option ScalarValue)) → (signed ≡ true → (b : List ℕ) (v : ScalarValue) → older ≡ Some b → value_of f b ≡ Some v → NoneBelow v xs) → ClaimsMin (bound_by (value_of f) (cond signed (told older false) None)) xs
 old_min_true f false older xs h = tt
 old_min_true f true None xs h = tt
 old_min_true f true (Some b) xs h = precise_min false (value_of f b) xs (λ v e. (h refl b v refl e, λ t. absurd cc))
 
 max_true : (f : Form) (ordered : Bool) (newer older : Option (List ℕ)) (exact : Bool) (xs : List (Option ScalarValue))
-    → (ordered ≡ true → (b : List ℕ) (v : ScalarValue) → newer ≡ Some b → value_of f b ≡ Some v → NoneAbove v xs × (exact ≡ true → Contains xs (Some v)))
-    → (is_signed f ≡ true → (b : List ℕ) (v : ScalarValue) → older ≡ Some b → value_of f b ≡ Some v → NoneAbove v xs)
-    → ClaimsMax (bound_of f (chosen f ordered newer older exact)) xs
+    → (ordered ≡ true → (b : List ℕ) (v : ScalarValue) → newer ≡ Some b → greatest_value f b ≡ Some v → NoneAbove v xs × (exact ≡ true → Contains xs (Some v)))
+    → (is_signed f ≡ true → (b : List ℕ) (v : ScalarValue) → older ≡ Some b → greatest_value f b ≡ Some v → NoneAbove v xs)
+    → ClaimsMax (bound_by (greatest_value f) (chosen f ordered newer older exact)) xs
 max_true f false newer older exact xs h k = old_max_true f (is_signed f) older xs k
 max_true f true None older exact xs h k = old_max_true f (is_signed f) older xs k
-max_true f true (Some b) older exact xs h k = precise_max exact (value_of f b) xs (λ v e. h refl b v refl e)
+max_true f true (Some b) older exact xs h k = precise_max exact (greatest_value f b) xs (λ v e. h refl b v refl e)
 
 min_true : (f : Form) (ordered : Bool) (newer older : Option (List ℕ)) (exact : Bool) (xs : List (Option ScalarValue))
     → (ordered ≡ true → (b : List ℕ) (v : ScalarValue) → newer ≡ Some b → value_of f b ≡ Some v → NoneBelow v xs × (exact ≡ true → Contains xs (Some v)))
     → (is_signed f ≡ true → (b : List ℕ) (v : ScalarValue) → older ≡ Some b → value_of f b ≡ Some v → NoneBelow v xs)
-    → ClaimsMin (bound_of f (chosen f ordered newer older exact)) xs
+    → ClaimsMin (bound_by (value_of f) (chosen f ordered newer older exact)) xs
 min_true f false newer older exact xs h k = old_min_true f (is_signed f) older xs k
 min_true f true None older exact xs h k = old_min_true f (is_signed f) older xs k
 min_true f true (Some b) older exact xs h k = precise_min exact (value_of f b) xs (λ v e. h refl b v refl e)

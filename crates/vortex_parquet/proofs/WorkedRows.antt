@@ -6,10 +6,10 @@ use Rattle.vortex_parquet.specs.Skip.{fields_in, skip_at, skip_entry, skip_value
 use Rattle.vortex_parquet.specs.Fields.{binary_in, byte_in, is_told, last_found, natural_in, number_in, struct_of, truth_in}
 use Rattle.vortex_parquet.specs.Footer.{footer_of, last_of, length_of}
 use Rattle.vortex_parquet.specs.Records.{annotation_at, annotation_from, annotation_in, chunk_size, decimal_of, element_of, integer_of, meta_size, order_of, statistics_of, time_of, timestamp_of, unit_at, unit_in}
-use Rattle.vortex_parquet.specs.Columns.{bool_form, bytes_form, checked, columns_in, columns_of, content_of, converted, eight, fixed_form, form_of, four, leaf_of, lookup, nullability}
+use Rattle.vortex_parquet.specs.Columns.{bool_form, bytes_form, checked, columns_in, columns_of, content_of, converted, eight, float_form, fixed_form, form_of, four, leaf_of, lookup, nullability}
 use Rattle.vortex_parquet.specs.Decimals.{number_of}
 use Rattle.vortex_parquet.specs.Meanings.{meaning_of}
-use Rattle.vortex_parquet.specs.Stats.{all_of, bool_value, chunk_set, eight_of, eight_value, four_of, four_value, group_of, set_of, size_of}
+use Rattle.vortex_parquet.specs.Stats.{all_of, bool_value, chunk_set, eight_of, eight_value, float_value, four_of, four_value, group_of, set_of, size_of}
 use Rattle.vortex_parquet.specs.Worked.{BoundExamples, ColumnExamples, GrammarExamples, SizeExamples, TableExamples}
 
 pub grammar : GrammarExamples
@@ -77,7 +77,7 @@ grammar = record {
 }
 
 pub table : TableExamples
-unfolding kind_at jump varint_from varint_in varint_at natural_at binary_at id_at head_at count_at items_at kinds_at map_at times skip_entry fields_in struct_at skip_value skip_at struct_of last_found binary_in number_in natural_in byte_in is_told truth_in statistics_of element_of annotation_in annotation_at annotation_from integer_of decimal_of unit_at unit_in time_of timestamp_of converted form_of bool_form four eight bytes_form fixed_form nullability order_of
+unfolding kind_at jump varint_from varint_in varint_at natural_at binary_at id_at head_at count_at items_at kinds_at map_at times skip_entry fields_in struct_at skip_value skip_at struct_of last_found binary_in number_in natural_in byte_in is_told truth_in statistics_of element_of annotation_in annotation_at annotation_from integer_of decimal_of unit_at unit_in time_of timestamp_of converted form_of bool_form four eight float_form bytes_form fixed_form nullability order_of
 table = record {
   truths = refl;
   truths_annotated = refl;
@@ -105,6 +105,12 @@ table = record {
   numbers_of_32_bits_in_eight = refl;
   int96 = refl;
   floats = refl;
+  floats_annotated = refl;
+  doubles_annotated = refl;
+  halves_in_numbers = refl;
+  floats_in_numbers = refl;
+  doubles_in_numbers = refl;
+  older_bounds_of_floats = refl;
   doubles = refl;
   bytes = refl;
   texts = refl;
@@ -211,7 +217,7 @@ table = record {
 }
 
 pub bounds : BoundExamples
-unfolding bool_value four_of eight_of four_value eight_value number_of set_of chunk_set is_utf8 chars lib.Utf8.encode
+unfolding bool_value four_of eight_of four_value eight_value float_value number_of set_of chunk_set is_utf8 chars lib.Utf8.encode
 bounds = record {
   newer_exact = refl;
   newer_inexact = refl;
@@ -283,6 +289,25 @@ bounds = record {
   no_bound = refl;
   nulls = refl;
   nulls_unknown = refl;
+  single = refl;
+  single_below_zero = refl;
+  single_minus_zero = refl;
+  single_nan = refl;
+  single_of_8_bytes = refl;
+  double = refl;
+  double_below_zero = refl;
+  double_nan = refl;
+  double_infinity = refl;
+  double_of_4_bytes = refl;
+  half = refl;
+  greatest_float = refl;
+  greatest_truth = refl;
+  greatest_number = refl;
+  greatest_long = refl;
+  greatest_bytes = refl;
+  greatest_decimal = refl;
+  set_of_floats = refl;
+  set_of_floats_without_order = refl;
   set = refl;
   set_without_order = refl;
   set_of_decimals = refl;
@@ -297,7 +322,7 @@ bounds = record {
 }
 
 pub columns : ColumnExamples
-unfolding columns_of columns_in checked content_of leaf_of meaning_of nullability form_of bool_form four eight bytes_form fixed_form converted lookup
+unfolding columns_of columns_in checked content_of leaf_of meaning_of nullability form_of bool_form four eight float_form bytes_form fixed_form converted lookup
 columns = record {
   columns = refl;
   no_root = refl;

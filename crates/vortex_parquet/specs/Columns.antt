@@ -8,6 +8,8 @@ use Rattle.vortex_base.specs.declared.types.Nullability.{Nullability}
 use Rattle.vortex_base.specs.declared.types.Nullability.TheVariants.{Nullable, NonNullable}
 use Rattle.vortex_base.specs.declared.types.PType.{PType}
 use Rattle.vortex_base.specs.declared.types.PType.TheVariants as ptype
+use Rattle.vortex_logical.specs.declared.float_type.FloatType.{FloatType}
+use Rattle.vortex_logical.specs.declared.float_type.FloatType.TheVariants.{F16, F32, F64}
 use Rattle.vortex_logical.specs.declared.time_unit.TimeUnit.TheVariants as unit
 use Rattle.vortex_parquet.specs.declared.fault.Fault.{Fault}
 use Rattle.vortex_parquet.specs.declared.fault.Fault.TheVariants as fault
@@ -26,6 +28,12 @@ use Rattle.vortex_parquet.specs.Meanings.{meaning_of}
 use Rattle.vortex_parquet.specs.Reading.{◌>>=◌}
 use Rattle.vortex_parquet.specs.Records.{ElementData, is_number}
 
+-- the type of the whole numbers of floats
+abbrev pub float_ptype : FloatType → PType
+float_ptype F16 = ptype.I16
+float_ptype F32 = ptype.I32
+float_ptype F64 = ptype.I64
+
 -- the type of the values of a form
 abbrev pub form_dtype : Form → Nullability → DType
 form_dtype form.Bool n = dtype.Bool n
@@ -34,6 +42,7 @@ form_dtype (form.Eight p) n = dtype.Primitive p n
 form_dtype form.Utf8 n = dtype.Utf8 n
 form_dtype form.Binary n = dtype.Binary n
 form_dtype form.Decimal n = dtype.Primitive ptype.I64 n
+form_dtype (form.Float t) n = dtype.Primitive (float_ptype t) n
 
 abbrev pub is_signed_ptype : PType → Bool
 is_signed_ptype ptype.U8 = false
@@ -45,7 +54,7 @@ is_signed_ptype ptype.I16 = true
 is_signed_ptype ptype.I32 = true
 is_signed_ptype ptype.I64 = true
 
--- the deprecated bounds are in the order of the values, as those of signed numbers are; those of decimals in bytes need not be
+-- the deprecated bounds are in the order of the values, as those of signed numbers are; those of decimals in bytes and of floats need not be
 abbrev pub is_signed : Form → Bool
 is_signed form.Bool = true
 is_signed (form.Four p) = is_signed_ptype p
@@ -53,6 +62,7 @@ is_signed (form.Eight p) = is_signed_ptype p
 is_signed form.Utf8 = false
 is_signed form.Binary = false
 is_signed form.Decimal = false
+is_signed (form.Float t) = false
 
 -- how many digits stand behind the point of decimals that are annotated in the older way: none where it isn't told
 abbrev pub older_scale : Option ℕ → Option ℕ
@@ -143,18 +153,24 @@ fixed_form annotation.Bytes = Some form.Binary
 fixed_form (annotation.Decimal scale precision) = decimal_form precision
 fixed_form l = None
 
+unfoldable pub float_form : FloatType → Annotation → Option Form
+float_form t annotation.None = Some (form.Float t)
+float_form t l = None
+
 unfoldable pub bool_form : Annotation → Option Form
 bool_form annotation.None = Some form.Bool
 bool_form l = None
 
--- enum Type: BOOLEAN 0, INT32 1, INT64 2, BYTE_ARRAY 6, FIXED_LEN_BYTE_ARRAY 7. Of INT96, FLOAT and DOUBLE nothing is read
+-- enum Type: BOOLEAN 0, INT32 1, INT64 2, FLOAT 4, DOUBLE 5, BYTE_ARRAY 6, FIXED_LEN_BYTE_ARRAY 7. Of INT96 nothing is read
 unfoldable pub form_of : ℕ → Annotation → Option Form
 form_of physical l =
     if physical == 0 then bool_form l else (
     if physical == 1 then four l else (
     if physical == 2 then eight l else (
+    if physical == 4 then float_form F32 l else (
+    if physical == 5 then float_form F64 l else (
     if physical == 6 then bytes_form l else (
-    if physical == 7 then fixed_form l else None))))
+    if physical == 7 then fixed_form l else None))))))
 
 -- enum FieldRepetitionType: REQUIRED 0, OPTIONAL 1; a repeated column is none that is flat
 unfoldable pub nullability : ℕ → Option Nullability

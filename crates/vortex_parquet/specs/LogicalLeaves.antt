@@ -1,7 +1,8 @@
--- Leaf columns of a logical type hold whole numbers of that type.
+-- Leaf columns of a logical type hold whole numbers of that type, and those of floats the whole numbers of floats.
 use Rattle.std.specs.Prelude.{◌≡◌, ℕ, ℤ, pos, negsuc, Some}
 use Rattle.vortex_base.specs.declared.types.PType.TheVariants as ptype
 use Rattle.vortex_logical.specs.declared.cell_range.CellRange.{CellRange}
+use Rattle.vortex_logical.specs.declared.float_type.FloatType.{FloatType}
 use Rattle.vortex_logical.specs.declared.logical_type.LogicalType.{LogicalType}
 use Rattle.vortex_logical.specs.LogicalTypes.{bits_64, range}
 use Rattle.vortex_logical.specs.Lowering.{IsIn}
@@ -25,6 +26,10 @@ AreCells t (form.Four ptype.I32) = IsWithin bits_32 (range t)
 AreCells t (form.Eight ptype.I64) = IsWithin bits_64 (range t)
 AreCells t form.Decimal = IsWithin bits_64 (range t)
 AreCells t f = ⊥
+
+-- a leaf column of floats is read as floats of that type
+abbrev pub FloatLeaves : Type 0
+FloatLeaves = (place : ℕ) (e : ElementData) (l : Leaf) (t : FloatType) → leaf_of place e ≡ Some l → l.meaning ≡ meaning.Float t → l.form ≡ form.Float t
 
 abbrev pub LogicalLeaves : Type 0
 LogicalLeaves = (place : ℕ) (e : ElementData) (l : Leaf) (t : LogicalType) → leaf_of place e ≡ Some l → l.meaning ≡ meaning.Logical t → AreCells t l.form

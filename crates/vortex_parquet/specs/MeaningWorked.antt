@@ -3,6 +3,7 @@ use Rattle.std.specs.Prelude.{◌≡◌, true, false, Some, None, codes}
 use Rattle.vortex_base.specs.declared.types.Nullability.TheVariants.{Nullable, NonNullable}
 use Rattle.vortex_base.specs.declared.types.PType.TheVariants as ptype
 use Rattle.vortex_logical.specs.declared.decimal.DecimalDType.{DecimalDType}
+use Rattle.vortex_logical.specs.declared.float_type.FloatType.TheVariants as float
 use Rattle.vortex_logical.specs.declared.logical_type.LogicalType.TheVariants as logical
 use Rattle.vortex_logical.specs.declared.time_unit.TimeUnit.TheVariants as unit
 use Rattle.vortex_parquet.specs.declared.columns.Form.TheVariants as form
@@ -21,6 +22,9 @@ pub record MeaningExamples : Type 0 where
   pub signed : meaning_of 1 (annotation.Integer 16 true) ≡ meaning.Plain
   pub unsigned : meaning_of 2 (annotation.Integer 64 false) ≡ meaning.Plain
   pub others : meaning_of 6 annotation.Other ≡ meaning.Opaque
+  pub floats : meaning_of 4 annotation.None ≡ meaning.Float float.F32
+  pub doubles : meaning_of 5 annotation.None ≡ meaning.Float float.F64
+  pub bytes_untold : meaning_of 6 annotation.None ≡ meaning.Plain
   pub dates : meaning_of 1 annotation.Date ≡ meaning.Logical logical.Date
   pub long_dates : meaning_of 2 annotation.Date ≡ meaning.Opaque
   pub dates_in_bytes : meaning_of 6 annotation.Date ≡ meaning.Opaque

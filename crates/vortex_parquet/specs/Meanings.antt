@@ -3,6 +3,7 @@ use Rattle.std.specs.Prelude.{◌≡◌, ◌≤◌, ℕ, Bool, true, false, ◌=
 use Rattle.std.proofs.lemmas.Bool.{leb-true}
 use Rattle.vortex_logical.specs.declared.decimal.DecimalDType.{DecimalDType}
 use Rattle.vortex_logical.specs.declared.logical_type.LogicalType.TheVariants as logical
+use Rattle.vortex_logical.specs.declared.float_type.FloatType.TheVariants.{F32, F64}
 use Rattle.vortex_logical.specs.declared.time_unit.TimeUnit.{TimeUnit}
 use Rattle.vortex_logical.specs.declared.time_unit.TimeUnit.TheVariants as unit
 use Rattle.vortex_parquet.specs.declared.meaning.LeafMeaning.{LeafMeaning}
@@ -62,13 +63,17 @@ timestamp_meaning adjusted u = meaning.Opaque
 abbrev pub most_digits : ℕ → ℕ
 most_digits physical = if physical == 1 then 9 else 18
 
+-- without an annotation FLOAT, 4, and DOUBLE, 5, are floats, and others the values themselves
+abbrev pub bare_meaning : ℕ → LeafMeaning
+bare_meaning physical = if physical == 4 then meaning.Float F32 else (if physical == 5 then meaning.Float F64 else meaning.Plain)
+
 -- what the cells of a physical type with an annotation stand for: enum Type has INT32 as 1 and INT64 as 2
 unfoldable pub meaning_of : ℕ → Annotation → LeafMeaning
 meaning_of physical annotation.Date = if physical == 1 then meaning.Logical logical.Date else meaning.Opaque
 meaning_of physical (annotation.Time u) = time_meaning physical u
 meaning_of physical (annotation.Timestamp adjusted u) = if physical == 2 then timestamp_meaning adjusted u else meaning.Opaque
 meaning_of physical (annotation.Decimal scale precision) = decimal_meaning (most_digits physical) scale precision
-meaning_of physical annotation.None = meaning.Plain
+meaning_of physical annotation.None = bare_meaning physical
 meaning_of physical annotation.Text = meaning.Plain
 meaning_of physical (annotation.Integer bits signed) = meaning.Plain
 meaning_of physical annotation.Bytes = meaning.Plain

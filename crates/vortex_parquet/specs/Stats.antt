@@ -15,6 +15,9 @@ use Rattle.vortex_stats.specs.declared.precision.Precision.{Precision}
 use Rattle.vortex_stats.specs.declared.precision.Precision.TheVariants.{Exact, Inexact, Absent}
 use Rattle.vortex_stats.specs.declared.stat.Stat.{Stat}
 use Rattle.vortex_stats.specs.declared.stat.Stat.TheVariants.{Max, Min, NullCount}
+use Rattle.vortex_logical.specs.Floats.{is_nan_bits, key}
+use Rattle.vortex_logical.specs.declared.float_type.FloatType.{FloatType}
+use Rattle.vortex_logical.specs.declared.float_type.FloatType.TheVariants.{F16, F32, F64}
 use Rattle.vortex_parquet.specs.declared.fault.Fault.{Fault}
 use Rattle.vortex_parquet.specs.declared.fault.Fault.TheVariants as fault
 use Rattle.vortex_parquet.specs.declared.columns.Form.{Form}
@@ -84,6 +87,20 @@ whole_value (Some n) = Some (value.Primitive (number.I64 n))
 abbrev pub decimal_value : List ℕ → Option ScalarValue
 decimal_value bytes = whole_value (number_of bytes)
 
+-- the whole number of a float by its bits, if it isn't NaN
+abbrev pub single_of : ℕ → Option PValue
+single_of bits = if is_nan_bits F32 bits then None else within (negsuc (2 ^ 31 - 1)) (pos (2 ^ 31 - 1)) number.I32 (key F32 bits)
+
+abbrev pub double_of : ℕ → Option PValue
+double_of bits = if is_nan_bits F64 bits then None else Some (number.I64 (key F64 bits))
+
+unfoldable pub float_value : FloatType → List ℕ → Option ScalarValue
+float_value F16 bytes = None
+float_value F32 bytes = if length bytes == 4 then number_value (single_of (from_le_bytes w32
+    (slice_index bytes 0 ∷ slice_index bytes 1 ∷ slice_index bytes 2 ∷ slice_index bytes 3 ∷ []))) else None
+float_value F64 bytes = if length bytes == 8 then number_value (double_of (from_le_bytes w64
+    (slice_index bytes 0 ∷ slice_index bytes 1 ∷ slice_index bytes 2 ∷ slice_index bytes 3 ∷ slice_index bytes 4 ∷ slice_index bytes 5 ∷ slice_index bytes 6 ∷ slice_index bytes 7 ∷ []))) else None
+
 -- the value of a form that the bytes are
 abbrev pub value_of : Form → List ℕ → Option ScalarValue
 value_of form.Bool bytes = bool_value bytes
@@ -92,6 +109,17 @@ value_of (form.Eight p) bytes = eight_value p bytes
 value_of form.Utf8 bytes = text_value bytes
 value_of form.Binary bytes = Some (value.Binary bytes)
 value_of form.Decimal bytes = decimal_value bytes
+value_of (form.Float t) bytes = float_value t bytes
+
+-- the value that is a greatest bound: none of floats, which may have NaN above their bound
+abbrev pub greatest_value : Form → List ℕ → Option ScalarValue
+greatest_value (form.Float t) bytes = None
+greatest_value form.Bool bytes = value_of form.Bool bytes
+greatest_value (form.Four p) bytes = value_of (form.Four p) bytes
+greatest_value (form.Eight p) bytes = value_of (form.Eight p) bytes
+greatest_value form.Utf8 bytes = value_of form.Utf8 bytes
+greatest_value form.Binary bytes = value_of form.Binary bytes
+greatest_value form.Decimal bytes = value_of form.Decimal bytes
 
 abbrev pub told : Option (List ℕ) → Bool → Option (List ℕ × Bool)
 told None exact = None
@@ -112,10 +140,10 @@ precise exact None = Absent
 precise true (Some v) = Exact v
 precise false (Some v) = Inexact v
 
--- a bound as a statistic: exact only if it is told to be
-abbrev pub bound_of : Form → Option (List ℕ × Bool) → Precision ScalarValue
-bound_of f None = Absent
-bound_of f (Some b) = precise b.1 (value_of f b.0)
+-- a bound as a statistic, by the value that its bytes are: exact only if it is told to be
+abbrev pub bound_by : (List ℕ → Option ScalarValue) → Option (List ℕ × Bool) → Precision ScalarValue
+bound_by read None = Absent
+bound_by read (Some b) = precise b.1 (read b.0)
 
 abbrev pub count_of : Option ℕ → Precision ScalarValue
 count_of None = Absent
@@ -124,8 +152,8 @@ count_of (Some n) = Exact (value.Primitive (number.U64 n))
 -- the set of a column's statistics
 unfoldable pub set_of : Form → Bool → StatisticsData → Entries
 set_of f ordered s =
-    (Max, bound_of f (chosen f ordered s.max s.old_max s.is_max_exact)) ∷
-    (Min, bound_of f (chosen f ordered s.min s.old_min s.is_min_exact)) ∷
+    (Max, bound_by (greatest_value f) (chosen f ordered s.max s.old_max s.is_max_exact)) ∷
+    (Min, bound_by (value_of f) (chosen f ordered s.min s.old_min s.is_min_exact)) ∷
     (NullCount, count_of s.null_count) ∷ []
 
 abbrev pub set_or_none : Form → Bool → Option StatisticsData → Entries

@@ -8,13 +8,13 @@ use Rattle.vortex_parquet.specs.declared.columns.Form.{Form}
 use Rattle.vortex_parquet.specs.declared.columns.Leaf.{Leaf}
 use Rattle.vortex_parquet.specs.Records.{ColumnChunkData, FileData, RowGroupData, StatisticsData, chunk_of, is_number, row_groups_of}
 use Rattle.vortex_parquet.specs.Columns.{is_signed}
-use Rattle.vortex_parquet.specs.Stats.{Entries, GroupData, all_of, group_of, groups_of, leaf_set, or_false, statistics_by, value_of}
+use Rattle.vortex_parquet.specs.Stats.{Entries, GroupData, all_of, group_of, groups_of, greatest_value, leaf_set, or_false, statistics_by, value_of}
 
--- The statistics are true of the values of a column: the bounds in the order of its type, which they are in only where it is told so; the deprecated ones in that of signed numbers; a bound that is told to be exact is one of the values.
+-- The statistics are true of the values of a column: the bounds in the order of its type, which they are in only where it is told so; the deprecated ones in that of signed numbers; a bound that is told to be exact is one of the values. NaN is left out of the bounds of floats, so their greatest tells nothing.
 pub record AreTrue (f : Form) (ordered : Bool) (s : StatisticsData) (xs : List (Option ScalarValue)) : Type 0 where
-  pub max : ordered ≡ true → (b : List ℕ) (v : ScalarValue) → s.max ≡ Some b → value_of f b ≡ Some v → NoneAbove v xs × (s.is_max_exact ≡ true → Contains xs (Some v))
+  pub max : ordered ≡ true → (b : List ℕ) (v : ScalarValue) → s.max ≡ Some b → greatest_value f b ≡ Some v → NoneAbove v xs × (s.is_max_exact ≡ true → Contains xs (Some v))
   pub min : ordered ≡ true → (b : List ℕ) (v : ScalarValue) → s.min ≡ Some b → value_of f b ≡ Some v → NoneBelow v xs × (s.is_min_exact ≡ true → Contains xs (Some v))
-  pub old_max : is_signed f ≡ true → (b : List ℕ) (v : ScalarValue) → s.old_max ≡ Some b → value_of f b ≡ Some v → NoneAbove v xs
+  pub old_max : is_signed f ≡ true → (b : List ℕ) (v : ScalarValue) → s.old_max ≡ Some b → greatest_value f b ≡ Some v → NoneAbove v xs
   pub old_min : is_signed f ≡ true → (b : List ℕ) (v : ScalarValue) → s.old_min ≡ Some b → value_of f b ≡ Some v → NoneBelow v xs
   pub null_count : (n : ℕ) → s.null_count ≡ Some n → null_count xs ≡ n
 

@@ -2,7 +2,9 @@
 use Rattle.std.specs.Prelude.{◌≡◌, ℕ, ◌^◌, ◌-◌, pos, negsuc, true, false, List, [], ◌∷◌, Some, None, Ok, Err, codes}
 use Rattle.vortex_base.specs.declared.pvalue.PValue.TheVariants as number
 use Rattle.vortex_base.specs.declared.scalar_value.ScalarValue.TheVariants as value
+use Rattle.vortex_base.specs.declared.dtype.DType.TheVariants as dtype
 use Rattle.vortex_base.specs.declared.types.Nullability.TheVariants.{Nullable, NonNullable}
+use Rattle.vortex_logical.specs.declared.float_type.FloatType.TheVariants as float
 use Rattle.vortex_base.specs.declared.types.PType.TheVariants as ptype
 use Rattle.vortex_logical.specs.declared.time_unit.TimeUnit.TheVariants as unit
 use Rattle.vortex_stats.specs.declared.precision.Precision.TheVariants.{Exact, Inexact, Absent}
@@ -15,12 +17,12 @@ use Rattle.vortex_parquet.specs.declared.fault.Fault.TheVariants as fault
 use Rattle.vortex_parquet.specs.declared.meaning.LeafMeaning.TheVariants as meaning
 use Rattle.vortex_parquet.specs.declared.records.Annotation.TheVariants as annotation
 use Rattle.vortex_parquet.specs.Compact.{binary_at, head_at, items_at, map_at, natural_at, varint_at}
-use Rattle.vortex_parquet.specs.Columns.{annotation_of, columns_of, converted, form_of, lookup, nullability}
+use Rattle.vortex_parquet.specs.Columns.{annotation_of, columns_of, converted, form_dtype, form_of, is_signed, lookup, nullability}
 use Rattle.vortex_parquet.specs.Fields.{found, struct_of}
 use Rattle.vortex_parquet.specs.Footer.{footer_of, length_of}
 use Rattle.vortex_parquet.specs.Records.{annotation_at, chunk_size, element_of, order_of, statistics_of}
 use Rattle.vortex_parquet.specs.Skip.{skip_at}
-use Rattle.vortex_parquet.specs.Stats.{bound_of, chosen, chunk_set, count_of, group_of, set_of, size_of, sum_of, value_of}
+use Rattle.vortex_parquet.specs.Stats.{bound_by, chosen, chunk_set, count_of, greatest_value, group_of, set_of, size_of, sum_of, value_of}
 
 -- numbers, strings, heads, values and fields of the compact protocol, and where a footer stands
 pub record GrammarExamples : Type 0 where
@@ -111,8 +113,14 @@ pub record TableExamples : Type 0 where
   pub long_unsigned : form_of 2 (annotation.Integer 64 false) ≡ Some (form.Eight ptype.U64)
   pub numbers_of_32_bits_in_eight : form_of 2 (annotation.Integer 32 false) ≡ None
   pub int96 : form_of 3 annotation.None ≡ None
-  pub floats : form_of 4 annotation.None ≡ None
-  pub doubles : form_of 5 annotation.None ≡ None
+  pub floats : form_of 4 annotation.None ≡ Some (form.Float float.F32)
+  pub floats_annotated : form_of 4 annotation.Other ≡ None
+  pub doubles : form_of 5 annotation.None ≡ Some (form.Float float.F64)
+  pub doubles_annotated : form_of 5 annotation.Date ≡ None
+  pub halves_in_numbers : form_dtype (form.Float float.F16) Nullable ≡ dtype.Primitive ptype.I16 Nullable
+  pub floats_in_numbers : form_dtype (form.Float float.F32) NonNullable ≡ dtype.Primitive ptype.I32 NonNullable
+  pub doubles_in_numbers : form_dtype (form.Float float.F64) Nullable ≡ dtype.Primitive ptype.I64 Nullable
+  pub older_bounds_of_floats : is_signed (form.Float float.F64) ≡ false
   pub bytes : form_of 6 annotation.None ≡ Some form.Binary
   pub texts : form_of 6 annotation.Text ≡ Some form.Utf8
   pub bson : form_of 6 annotation.Bytes ≡ Some form.Binary
@@ -282,10 +290,29 @@ pub record BoundExamples : Type 0 where
   pub long_decimal_of_17_bytes : value_of form.Decimal (0 ∷ 0 ∷ 0 ∷ 0 ∷ 0 ∷ 0 ∷ 1 ∷ 0 ∷ 0 ∷ 0 ∷ 0 ∷ 0 ∷ 0 ∷ 0 ∷ 0 ∷ 0 ∷ 0 ∷ []) ≡ None
   pub no_decimal : value_of form.Decimal ([]) ≡ None
   pub bytes : value_of form.Binary (195 ∷ []) ≡ Some (value.Binary (195 ∷ []))
-  pub exact_if_told : bound_of form.Binary (Some (7 ∷ [], true)) ≡ Exact (value.Binary (7 ∷ []))
-  pub inexact_else : bound_of form.Binary (Some (7 ∷ [], false)) ≡ Inexact (value.Binary (7 ∷ []))
-  pub no_value : bound_of form.Bool (Some (7 ∷ [], true)) ≡ Absent
-  pub no_bound : bound_of form.Bool None ≡ Absent
+  pub exact_if_told : bound_by (value_of form.Binary) (Some (7 ∷ [], true)) ≡ Exact (value.Binary (7 ∷ []))
+  pub inexact_else : bound_by (value_of form.Binary) (Some (7 ∷ [], false)) ≡ Inexact (value.Binary (7 ∷ []))
+  pub no_value : bound_by (value_of form.Bool) (Some (7 ∷ [], true)) ≡ Absent
+  pub no_bound : bound_by (value_of form.Bool) None ≡ Absent
+  pub single : value_of (form.Float float.F32) (0 ∷ 0 ∷ 192 ∷ 63 ∷ []) ≡ Some (value.Primitive (number.I32 (pos 1_069_547_520)))
+  pub single_below_zero : value_of (form.Float float.F32) (0 ∷ 0 ∷ 0 ∷ 192 ∷ []) ≡ Some (value.Primitive (number.I32 (negsuc 1_073_741_824)))
+  pub single_minus_zero : value_of (form.Float float.F32) (0 ∷ 0 ∷ 0 ∷ 128 ∷ []) ≡ Some (value.Primitive (number.I32 (pos 0)))
+  pub single_nan : value_of (form.Float float.F32) (0 ∷ 0 ∷ 192 ∷ 127 ∷ []) ≡ None
+  pub single_of_8_bytes : value_of (form.Float float.F32) (0 ∷ 0 ∷ 0 ∷ 0 ∷ 0 ∷ 0 ∷ 248 ∷ 63 ∷ []) ≡ None
+  pub double : value_of (form.Float float.F64) (0 ∷ 0 ∷ 0 ∷ 0 ∷ 0 ∷ 0 ∷ 248 ∷ 63 ∷ []) ≡ Some (value.Primitive (number.I64 (pos 4_609_434_218_613_702_656)))
+  pub double_below_zero : value_of (form.Float float.F64) (0 ∷ 0 ∷ 0 ∷ 0 ∷ 0 ∷ 0 ∷ 0 ∷ 192 ∷ []) ≡ Some (value.Primitive (number.I64 (negsuc 4_611_686_018_427_387_904)))
+  pub double_nan : value_of (form.Float float.F64) (1 ∷ 0 ∷ 0 ∷ 0 ∷ 0 ∷ 0 ∷ 240 ∷ 127 ∷ []) ≡ None
+  pub double_infinity : value_of (form.Float float.F64) (0 ∷ 0 ∷ 0 ∷ 0 ∷ 0 ∷ 0 ∷ 240 ∷ 127 ∷ []) ≡ Some (value.Primitive (number.I64 (pos 9_218_868_437_227_405_312)))
+  pub double_of_4_bytes : value_of (form.Float float.F64) (0 ∷ 0 ∷ 192 ∷ 63 ∷ []) ≡ None
+  pub half : value_of (form.Float float.F16) (0 ∷ 62 ∷ []) ≡ None
+  pub greatest_float : greatest_value (form.Float float.F32) (0 ∷ 0 ∷ 192 ∷ 63 ∷ []) ≡ None
+  pub greatest_truth : greatest_value form.Bool (1 ∷ []) ≡ Some (value.Bool true)
+  pub greatest_number : greatest_value (form.Four ptype.I32) (7 ∷ 0 ∷ 0 ∷ 0 ∷ []) ≡ Some (value.Primitive (number.I32 (pos 7)))
+  pub greatest_long : greatest_value (form.Eight ptype.I64) (7 ∷ 0 ∷ 0 ∷ 0 ∷ 0 ∷ 0 ∷ 0 ∷ 0 ∷ []) ≡ Some (value.Primitive (number.I64 (pos 7)))
+  pub greatest_bytes : greatest_value form.Binary (7 ∷ []) ≡ Some (value.Binary (7 ∷ []))
+  pub greatest_decimal : greatest_value form.Decimal (7 ∷ []) ≡ Some (value.Primitive (number.I64 (pos 7)))
+  pub set_of_floats : set_of (form.Float float.F32) true (record { old_max = Some (0 ∷ 0 ∷ 192 ∷ 63 ∷ []); old_min = Some (0 ∷ 0 ∷ 192 ∷ 63 ∷ []); null_count = None; max = Some (0 ∷ 0 ∷ 192 ∷ 63 ∷ []); min = Some (0 ∷ 0 ∷ 192 ∷ 63 ∷ []); is_max_exact = true; is_min_exact = false }) ≡ (Max, Absent) ∷ (Min, Inexact (value.Primitive (number.I32 (pos 1_069_547_520)))) ∷ (NullCount, Absent) ∷ []
+  pub set_of_floats_without_order : set_of (form.Float float.F32) false (record { old_max = Some (0 ∷ 0 ∷ 192 ∷ 63 ∷ []); old_min = Some (0 ∷ 0 ∷ 192 ∷ 63 ∷ []); null_count = None; max = Some (0 ∷ 0 ∷ 192 ∷ 63 ∷ []); min = Some (0 ∷ 0 ∷ 192 ∷ 63 ∷ []); is_max_exact = true; is_min_exact = false }) ≡ (Max, Absent) ∷ (Min, Absent) ∷ (NullCount, Absent) ∷ []
   pub nulls : count_of (Some 4) ≡ Exact (value.Primitive (number.U64 4))
   pub nulls_unknown : count_of None ≡ Absent
   pub set : set_of form.Bool true (record { old_max = Some (1 ∷ []); old_min = Some (0 ∷ []); null_count = Some 2; max = Some (0 ∷ []); min = Some (1 ∷ []); is_max_exact = true; is_min_exact = false }) ≡ (Max, Exact (value.Bool false)) ∷ (Min, Inexact (value.Bool true)) ∷ (NullCount, Exact (value.Primitive (number.U64 2))) ∷ []
@@ -334,7 +361,7 @@ pub record SizeExamples : Type 0 where
 
 -- the columns of a schema, and the one of a name
 pub record ColumnExamples : Type 0 where
-  pub columns : columns_of (record { physical = None; repetition = None; name = codes "schema"; children = Some 5; converted = None; scale = None; precision = None; annotation = None } ∷ record { physical = Some 1; repetition = Some 1; name = codes "a"; children = None; converted = None; scale = None; precision = None; annotation = None } ∷ record { physical = None; repetition = Some 1; name = codes "g"; children = Some 2; converted = None; scale = None; precision = None; annotation = None } ∷ record { physical = Some 1; repetition = Some 0; name = codes "x"; children = None; converted = None; scale = None; precision = None; annotation = None } ∷ record { physical = Some 2; repetition = Some 0; name = codes "y"; children = None; converted = None; scale = None; precision = None; annotation = None } ∷ record { physical = Some 1; repetition = Some 2; name = codes "r"; children = None; converted = None; scale = None; precision = None; annotation = None } ∷ record { physical = Some 6; repetition = Some 0; name = codes "s"; children = None; converted = Some 0; scale = None; precision = None; annotation = None } ∷ record { physical = Some 5; repetition = Some 1; name = codes "d"; children = None; converted = None; scale = None; precision = None; annotation = None } ∷ []) ≡ Ok (record { name = codes "a"; content = content.Leaf (record { place = 0; physical = 1; form = form.Four ptype.I32; meaning = meaning.Plain; nullability = Nullable }) } ∷ record { name = codes "g"; content = content.LeftOut left_out.Nested } ∷ record { name = codes "r"; content = content.LeftOut left_out.Repeated } ∷ record { name = codes "s"; content = content.Leaf (record { place = 4; physical = 6; form = form.Utf8; meaning = meaning.Plain; nullability = NonNullable }) } ∷ record { name = codes "d"; content = content.LeftOut left_out.Type } ∷ [], 6)
+  pub columns : columns_of (record { physical = None; repetition = None; name = codes "schema"; children = Some 6; converted = None; scale = None; precision = None; annotation = None } ∷ record { physical = Some 1; repetition = Some 1; name = codes "a"; children = None; converted = None; scale = None; precision = None; annotation = None } ∷ record { physical = None; repetition = Some 1; name = codes "g"; children = Some 2; converted = None; scale = None; precision = None; annotation = None } ∷ record { physical = Some 1; repetition = Some 0; name = codes "x"; children = None; converted = None; scale = None; precision = None; annotation = None } ∷ record { physical = Some 2; repetition = Some 0; name = codes "y"; children = None; converted = None; scale = None; precision = None; annotation = None } ∷ record { physical = Some 1; repetition = Some 2; name = codes "r"; children = None; converted = None; scale = None; precision = None; annotation = None } ∷ record { physical = Some 6; repetition = Some 0; name = codes "s"; children = None; converted = Some 0; scale = None; precision = None; annotation = None } ∷ record { physical = Some 5; repetition = Some 1; name = codes "d"; children = None; converted = None; scale = None; precision = None; annotation = None } ∷ record { physical = Some 3; repetition = Some 1; name = codes "n"; children = None; converted = None; scale = None; precision = None; annotation = None } ∷ []) ≡ Ok (record { name = codes "a"; content = content.Leaf (record { place = 0; physical = 1; form = form.Four ptype.I32; meaning = meaning.Plain; nullability = Nullable }) } ∷ record { name = codes "g"; content = content.LeftOut left_out.Nested } ∷ record { name = codes "r"; content = content.LeftOut left_out.Repeated } ∷ record { name = codes "s"; content = content.Leaf (record { place = 4; physical = 6; form = form.Utf8; meaning = meaning.Plain; nullability = NonNullable }) } ∷ record { name = codes "d"; content = content.Leaf (record { place = 5; physical = 5; form = form.Float float.F64; meaning = meaning.Float float.F64; nullability = Nullable }) } ∷ record { name = codes "n"; content = content.LeftOut left_out.Type } ∷ [], 7)
   pub no_root : columns_of [] ≡ Err fault.Schema
   pub group_past_the_end : columns_of (record { physical = None; repetition = None; name = codes "schema"; children = Some 1; converted = None; scale = None; precision = None; annotation = None } ∷ record { physical = None; repetition = Some 1; name = codes "g"; children = Some 2; converted = None; scale = None; precision = None; annotation = None } ∷ record { physical = Some 1; repetition = Some 0; name = codes "x"; children = None; converted = None; scale = None; precision = None; annotation = None } ∷ []) ≡ Err fault.Schema
   pub nested_group : columns_of (record { physical = None; repetition = None; name = codes "schema"; children = Some 2; converted = None; scale = None; precision = None; annotation = None } ∷ record { physical = None; repetition = Some 1; name = codes "g"; children = Some 1; converted = None; scale = None; precision = None; annotation = None } ∷ record { physical = None; repetition = Some 1; name = codes "h"; children = Some 1; converted = None; scale = None; precision = None; annotation = None } ∷ record { physical = Some 1; repetition = Some 0; name = codes "x"; children = None; converted = None; scale = None; precision = None; annotation = None } ∷ record { physical = Some 1; repetition = Some 0; name = codes "b"; children = None; converted = None; scale = None; precision = None; annotation = None } ∷ []) ≡ Ok (record { name = codes "g"; content = content.LeftOut left_out.Nested } ∷ record { name = codes "b"; content = content.Leaf (record { place = 1; physical = 1; form = form.Four ptype.I32; meaning = meaning.Plain; nullability = NonNullable }) } ∷ [], 2)

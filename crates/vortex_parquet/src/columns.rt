@@ -11,6 +11,7 @@ use crate::records::{Annotation, SchemaElement, is_number};
 use std::alloc::{AllocError, Global};
 use vortex_base::dtype::DType;
 use vortex_base::types::{Nullability, PType};
+use vortex_logical::float_type::FloatType;
 use vortex_logical::time_unit::TimeUnit;
 
 /// How the bytes of a column's bounds are read.
@@ -25,6 +26,8 @@ pub enum Form {
     Binary,
     /// A whole number of 64 bits with a sign, the highest byte first, in any number of bytes.
     Decimal,
+    /// A float, which stands by its whole number.
+    Float(FloatType),
 }
 
 /// A leaf column that is read: its place among all leaf columns, its physical type, what it holds,
@@ -45,7 +48,7 @@ pub enum LeftOut {
     Nested,
     /// It has a list of values a row.
     Repeated,
-    /// The order of its values is not one of those that are known here, as that of floats.
+    /// The order of its values is not one of those that are known here.
     Type,
     /// Another column has its name.
     Duplicate,
@@ -65,6 +68,17 @@ pub struct Column<'a> {
     pub content: Content,
 }
 
+// Returns the type of the whole numbers of floats.
+fn float_ptype(float: FloatType) -> PType
+    ensures { result ≡ spec.float_ptype float }
+{
+    match float {
+        FloatType::F16 => PType::I16,
+        FloatType::F32 => PType::I32,
+        FloatType::F64 => PType::I64,
+    }
+}
+
 impl Leaf {
     /// Returns the type of the values.
     pub fn dtype(self) -> DType
@@ -76,13 +90,15 @@ impl Leaf {
             Form::Utf8 => DType::Utf8(self.nullability),
             Form::Binary => DType::Binary(self.nullability),
             Form::Decimal => DType::Primitive(PType::I64, self.nullability),
+            Form::Float(float) => DType::Primitive(float_ptype(float), self.nullability),
         }
     }
 }
 
 impl Form {
     /// Tells whether the deprecated bounds are in the order of the values, as those of signed
-    /// numbers are. Those of decimals in bytes may have been compared byte by byte.
+    /// numbers are. Those of decimals in bytes may have been compared byte by byte, and those of
+    /// floats in some order with NaN.
     pub fn is_signed(self) -> bool
         ensures { result ≡ spec.is_signed self }
     {
@@ -91,7 +107,7 @@ impl Form {
             Form::Four(ptype) | Form::Eight(ptype) => {
                 matches!(ptype, PType::I8 | PType::I16 | PType::I32 | PType::I64)
             }
-            Form::Utf8 | Form::Binary | Form::Decimal => false,
+            Form::Utf8 | Form::Binary | Form::Decimal | Form::Float(_) => false,
         }
     }
 }
@@ -261,6 +277,17 @@ fn fixed_form(annotation: Annotation) -> Option<Form>
     }
 }
 
+// Floats.
+#[tactic(auto, unfolding(crate::specs::Columns::float_form))]
+fn float_form(float: FloatType, annotation: Annotation) -> Option<Form>
+    ensures { result ≡ spec.float_form float annotation }
+{
+    match annotation {
+        Annotation::None => Some(Form::Float(float)),
+        _ => None,
+    }
+}
+
 #[tactic(auto, unfolding(crate::specs::Columns::bool_form))]
 fn bool_form(annotation: Annotation) -> Option<Form>
     ensures { result ≡ spec.bool_form annotation }
@@ -280,6 +307,8 @@ fn form_of(physical: u64, annotation: Annotation) -> Option<Form>
         0 => bool_form(annotation),
         1 => four(annotation),
         2 => eight(annotation),
+        4 => float_form(FloatType::F32, annotation),
+        5 => float_form(FloatType::F64, annotation),
         6 => bytes_form(annotation),
         7 => fixed_form(annotation),
         _ => None,

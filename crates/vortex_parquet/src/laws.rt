@@ -5,7 +5,7 @@ ghost use Rattle.vortex_parquet.specs.DataPageWorked.{DataPageExamples};
 ghost use Rattle.vortex_parquet.specs.Fields.{field_views, fields_before, struct_of};
 ghost use Rattle.vortex_parquet.specs.Grammar.{IsStruct, IsValue};
 ghost use Rattle.vortex_parquet.specs.IndexWorked.{IndexExamples};
-ghost use Rattle.vortex_parquet.specs.LogicalLeaves.{LogicalLeaves};
+ghost use Rattle.vortex_parquet.specs.LogicalLeaves.{FloatLeaves, LogicalLeaves};
 ghost use Rattle.vortex_parquet.specs.MeaningWorked.{MeaningExamples};
 ghost use Rattle.vortex_parquet.specs.PageWitness.{TruePages};
 ghost use Rattle.vortex_parquet.specs.PageWorked.{PageExamples, StretchExamples};
@@ -49,9 +49,10 @@ pub fn fields_of(alloc: Global, bytes: &[u8]) -> Result<(Vec<Field<'_>>, &[u8]),
 }
 
 /// A leaf column of a logical type holds whole numbers with a sign, each of which a column of that
-/// type may hold.
+/// type may hold, and one of floats the whole numbers of floats of its type.
 pub fn leaves_hold_cells()
-    ensures { LogicalLeaves }
+    ensures numbers { LogicalLeaves }
+    ensures floats { FloatLeaves }
 {}
 
 /// Where the statistics of a row group are true of its rows, so are the sets that are made of them;

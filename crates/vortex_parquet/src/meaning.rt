@@ -4,6 +4,7 @@ ghost use Rattle.vortex_parquet.specs.Meanings as spec;
 
 use crate::records::{Annotation, is_number};
 use vortex_logical::decimal::DecimalDType;
+use vortex_logical::float_type::FloatType;
 use vortex_logical::logical_type::LogicalType;
 use vortex_logical::time_unit::TimeUnit;
 
@@ -14,6 +15,8 @@ pub enum LeafMeaning {
     Plain,
     /// Values of this type, whose whole numbers the cells are.
     Logical(LogicalType),
+    /// Floats, whose whole numbers the cells are.
+    Float(FloatType),
     /// Something that isn't known: a cell compares only with cells.
     Opaque,
 }
@@ -99,6 +102,17 @@ fn most_digits(physical: u64) -> u64
     18
 }
 
+// Returns the meaning of cells without an annotation.
+fn bare_meaning(physical: u64) -> LeafMeaning
+    ensures { result ≡ spec.bare_meaning physical }
+{
+    match physical {
+        4 => LeafMeaning::Float(FloatType::F32),
+        5 => LeafMeaning::Float(FloatType::F64),
+        _ => LeafMeaning::Plain,
+    }
+}
+
 /// Returns what the cells of a physical type with an annotation stand for.
 #[tactic(auto, unfolding(crate::specs::Meanings::meaning_of))]
 pub fn meaning_of(physical: u64, annotation: Annotation) -> LeafMeaning
@@ -116,6 +130,7 @@ pub fn meaning_of(physical: u64, annotation: Annotation) -> LeafMeaning
             decimal_meaning(most_digits(physical), scale, precision)
         }
         Annotation::Other => LeafMeaning::Opaque,
+        Annotation::None => bare_meaning(physical),
         _ => LeafMeaning::Plain,
     }
 }

@@ -19,6 +19,7 @@ use vortex_base::pvalue::PValue;
 use vortex_base::scalar_value::ScalarValue;
 use vortex_base::text::Text;
 use vortex_base::types::{Nullability, PType};
+use vortex_logical::float_type::FloatType;
 use vortex_stats::precision::Precision;
 use vortex_stats::stat::Stat;
 use vortex_stats::stats_set::StatsSet;
@@ -165,6 +166,57 @@ fn decimal_value(bytes: &[u8]) -> Option<ScalarValue>
     }
 }
 
+// The whole number of a float of 32 bits, if it isn't NaN.
+fn single_of(bits: u32) -> Option<PValue>
+    ensures { result ≡ spec.single_of bits }
+{
+    let bits = u64::from(bits);
+    if FloatType::F32.is_nan(bits) {
+        return None;
+    }
+    let key = FloatType::F32.key(bits);
+    if -2_147_483_648 <= key && key <= 2_147_483_647 {
+        return Some(PValue::I32(key as i32));
+    }
+    None
+}
+
+// The whole number of a float of 64 bits, if it isn't NaN.
+fn double_of(bits: u64) -> Option<PValue>
+    ensures { result ≡ spec.double_of bits }
+{
+    if FloatType::F64.is_nan(bits) {
+        return None;
+    }
+    Some(PValue::I64(FloatType::F64.key(bits)))
+}
+
+// The whole number of the float that the bytes are, if it isn't NaN.
+#[tactic(auto, unfolding(crate::specs::Stats::float_value))]
+fn float_value(float: FloatType, bytes: &[u8]) -> Option<ScalarValue>
+    ensures { result ≡ spec.float_value float bytes.now }
+{
+    match float {
+        FloatType::F16 => None,
+        FloatType::F32 => {
+            if bytes.len() != 4 {
+                return None;
+            }
+            let bits = u32::from_le_bytes([bytes[0], bytes[1], bytes[2], bytes[3]]);
+            number_value(single_of(bits))
+        }
+        FloatType::F64 => {
+            if bytes.len() != 8 {
+                return None;
+            }
+            let bits = u64::from_le_bytes([
+                bytes[0], bytes[1], bytes[2], bytes[3], bytes[4], bytes[5], bytes[6], bytes[7],
+            ]);
+            number_value(double_of(bits))
+        }
+    }
+}
+
 // The value of a form that the bytes are, if they are one.
 fn value_of(alloc: Global, form: Form, bytes: &[u8]) -> Result<Option<ScalarValue>, AllocError>
     ensures { IfOk result (λ v. v ≡ spec.value_of form bytes.now) }
@@ -175,6 +227,7 @@ fn value_of(alloc: Global, form: Form, bytes: &[u8]) -> Result<Option<ScalarValu
         Form::Eight(ptype) => Ok(eight_value(ptype, bytes)),
         Form::Utf8 => text_value(alloc, bytes),
         Form::Decimal => Ok(decimal_value(bytes)),
+        Form::Float(float) => Ok(float_value(float, bytes)),
         Form::Binary => {
             let bytes = Vec::from_slice(alloc, bytes)?;
             Ok(Some(ScalarValue::Binary(Bytes::new(bytes))))
@@ -242,7 +295,8 @@ fn bound_of(
     form: Form,
     bound: Option<Bound<'_>>,
 ) -> Result<Precision<ScalarValue>, AllocError>
-    ensures { IfOk result (λ p. p ≡ spec.bound_of form (spec.bound_view bound.entry)) }
+    ensures { IfOk result (λ p.
+        p ≡ spec.bound_by (spec.value_of form) (spec.bound_view bound.entry)) }
 {
     match bound {
         None => Ok(Precision::Absent),
@@ -250,6 +304,26 @@ fn bound_of(
             let value = value_of(alloc, form, bound.bytes)?;
             Ok(precise(bound.is_exact, value))
         }
+    }
+}
+
+// The greatest bound as a statistic. That of floats leaves NaN out, which may stand above it.
+fn greatest_of(
+    alloc: Global,
+    form: Form,
+    bound: Option<Bound<'_>>,
+) -> Result<Precision<ScalarValue>, AllocError>
+    ensures { IfOk result (λ p.
+        p ≡ spec.bound_by (spec.greatest_value form) (spec.bound_view bound.entry)) }
+{
+    match form {
+        Form::Float(_) => Ok(Precision::Absent),
+        Form::Bool
+        | Form::Four(_)
+        | Form::Eight(_)
+        | Form::Utf8
+        | Form::Binary
+        | Form::Decimal => bound_of(alloc, form, bound),
     }
 }
 
@@ -276,7 +350,7 @@ pub fn set_of(
 {
     let s = *statistics;
     let max = chosen(form, is_ordered, s.max, s.old_max, s.is_max_exact);
-    let max = bound_of(alloc, form, max)?;
+    let max = greatest_of(alloc, form, max)?;
     let min = chosen(form, is_ordered, s.min, s.old_min, s.is_min_exact);
     let min = bound_of(alloc, form, min)?;
     let mut set = StatsSet::new(alloc);

@@ -51,6 +51,7 @@ pub record IsFirstLeftOut (cs : List ColumnView) (ms : List MentionData) (start 
 abbrev pub is_known : LeafMeaning → Bool
 is_known meaning.Plain = true
 is_known (meaning.Logical t) = true
+is_known (meaning.Float t) = true
 is_known meaning.Opaque = false
 
 -- it is known what its cells stand for
@@ -64,9 +65,10 @@ read_leaf l = if is_read l then Some l else None
 abbrev pub cells_in : LeafMeaning → Cells
 cells_in meaning.Plain = cells.Values
 cells_in (meaning.Logical t) = cells.Exact t
+cells_in (meaning.Float t) = cells.Floats t None
 cells_in meaning.Opaque = cells.Values
 
--- what the cells of a leaf column stand for
+-- what the cells of a leaf column stand for; nothing is said of NaN
 abbrev pub cells_of : Leaf → Cells
 cells_of l = cells_in l.meaning
 

@@ -44,17 +44,18 @@ fn is_known(meaning: LeafMeaning) -> bool
     ensures { result ≡ spec.is_known meaning }
 {
     match meaning {
-        LeafMeaning::Plain | LeafMeaning::Logical(_) => true,
+        LeafMeaning::Plain | LeafMeaning::Logical(_) | LeafMeaning::Float(_) => true,
         LeafMeaning::Opaque => false,
     }
 }
 
-// Returns what the cells of a leaf column stand for.
+// Returns what the cells of a leaf column stand for. Nothing is said of NaN.
 fn cells_of(leaf: &Leaf) -> Cells
     ensures { result ≡ spec.cells_of leaf.now }
 {
     match leaf.meaning {
         LeafMeaning::Logical(logical) => Cells::Exact(logical),
+        LeafMeaning::Float(float) => Cells::Floats(float, None),
         LeafMeaning::Plain | LeafMeaning::Opaque => Cells::Values,
     }
 }
