@@ -421,10 +421,10 @@ uint8_t vortex_parquet_footer(const uint8_t *tail, size_t tail_len, size_t *leng
  * What to do with each row group of a Parquet file under a condition in SQL (see vortex_prune_sql), by the file's footer
  * alone: its bytes without the length and the mark behind them. docs/PARQUET.md says which columns and statistics are read.
  * If the statistics are true of the rows, no row of a row group that is skipped satisfies the condition, and each row of one
- * that is whole does, whatever the tests mean that weren't read: those of a column that the file hasn't, of one whose order
- * isn't known, as a floating number's, and of one whose numbers stand for something else, as dates, timestamps and decimals
- * with a fraction. A test that names a nested or repeated column, or one of several of its name, is VORTEX_NOT_READ.
- * The statistics of those columns alone are read that the condition names.
+ * that is whole does, whatever the tests mean that weren't read, as those of a column that the file hasn't, or of one whose
+ * order isn't known. Dates, times, timestamps, decimals and floats are compared by what their numbers stand for; > and >= of
+ * a float aren't read, since nothing says what they mean of NaN. A test that names a nested or repeated column, or one of
+ * several of its name, is VORTEX_NOT_READ. The statistics of those columns alone are read that the condition names.
  *
  * `groups` has the row groups at its front, in the file's order, and `unread` the places of the tests that weren't read,
  * ascending; what stands behind them stays as it was. *groups_found and *unread_found are how many there are, or with

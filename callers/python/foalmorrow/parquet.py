@@ -152,9 +152,10 @@ class File:
         """Returns what to do with each row group under a condition in SQL, as it stands behind WHERE.
 
         If the statistics of the footer are true, no row of a skipped row group satisfies the condition, and each row of a whole one does, whatever
-        the tests mean that aren't read: those of a column that the file lacks, of one whose order isn't known, as a floating number's, and of dates,
-        times and decimals with a fraction, whose numbers stand for something else. One ``UnreadWarning`` tells of them. With ``last_names`` a name of
-        several parts, as ``t.a``, is the column of its last one. The statistics of those columns alone are read that the condition names.
+        the tests mean that aren't read, as those of a column that the file lacks, or of one whose order isn't known. One ``UnreadWarning`` tells of
+        them. Dates, times, timestamps, decimals and floats are compared by what their numbers stand for; ``>`` and ``>=`` of a float aren't read, since
+        nothing says what they mean of NaN. With ``last_names`` a name of several parts, as ``t.a``, is the column of its last one. The statistics of
+        those columns alone are read that the condition names.
 
         FooterFault where the bytes are no footer; SqlError, with the place, where the text is no condition over the file's columns; of these
         NotReadError where a test names a column that is nested, repeated, or one of several of its name.

@@ -198,9 +198,10 @@ impl Footer {
     /// Answers what to do with each row group under a condition in SQL, as it stands behind WHERE.
     ///
     /// If the statistics of the footer are true, no row of a skipped row group satisfies the condition, and each row of a
-    /// whole one does, whatever the tests mean that aren't read: those of a column that the file lacks, of one whose
-    /// order isn't known, as a floating number's, and of dates, times and decimals with a fraction. The statistics of
-    /// those columns alone are read that the condition names.
+    /// whole one does, whatever the tests mean that aren't read, as those of a column that the file lacks, or of one
+    /// whose order isn't known. Dates, times, timestamps, decimals and floats are compared by what their numbers stand
+    /// for; `>` and `>=` of a float aren't read, since nothing says what they mean of NaN. The statistics of those
+    /// columns alone are read that the condition names.
     ///
     /// # Errors
     ///

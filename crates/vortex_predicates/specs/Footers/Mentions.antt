@@ -27,6 +27,7 @@ of_operand l (operand.Column name) = record { name = name; start = l.start; end 
 of_operand l operand.Null = []
 of_operand l (operand.Truth b) = []
 of_operand l (operand.Exact x) = []
+of_operand l (operand.Float b) = []
 of_operand l (operand.Text bs) = []
 of_operand l (operand.Binary bs) = []
 of_operand l operand.Other = []

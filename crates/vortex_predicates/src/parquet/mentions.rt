@@ -37,6 +37,7 @@ fn add_operand<'a>(
         Operand::Null
         | Operand::Truth(_)
         | Operand::Exact(_)
+        | Operand::Float(_)
         | Operand::Text(_)
         | Operand::Binary(_)
         | Operand::Other => Ok(()),
