@@ -165,8 +165,10 @@ columns = [
     (1, b"day", ((6, I32(6)),), -1, 11016), (1, b"far", ((6, I32(6)),), -2147483648, 2147483647), (1, b"clock", ((6, I32(7)),), 0, 86399999),
     (1, b"late", ((6, I32(7)),), -1, 86400000), (2, b"at", ((6, I32(10)),), -1, 1500000), (2, b"naive", ((10, naive),), 0, 2**63 - 1),
     (2, b"price", decimals(2), -5, 12345), (2, b"whole", decimals(0), -7, 7), (2, b"qty", (), -7, 7),
+    (4, b"short", (), 0.1, 7.5), (5, b"fare", (), -2.5, 1e300), (5, b"zero", (), -0.0, float("inf")),
 ]
-value = lambda kind, number: number.to_bytes(4 * kind, "little", signed=True)
+# FLOAT is 4, and DOUBLE 5.
+value = lambda kind, number: struct.pack({4: "<f", 5: "<d"}[kind], number) if kind > 2 else number.to_bytes(4 * kind, "little", signed=True)
 
 def chunk(kind, name, _, least, greatest):
     told = Raw(thrift((3, 0), (5, value(kind, greatest)), (6, value(kind, least)), (7, True), (8, True)))
@@ -186,11 +188,18 @@ typed=(
     "answer:  at: min 1969-12-31 23:59:59.999999Z max 1970-01-01 00:00:01.5Z null_count 0"
     "answer:  naive: min 1970-01-01 00:00:00 max 2262-04-11 23:47:16.854775807 null_count 0"
     "answer:  price: min -0.05 max 123.45 null_count 0" "answer:  whole: min -7 max 7 null_count 0" "answer:  qty: min -7 max 7 null_count 0"
+    "answer:  short: min 0.1 null_count 0" "answer:  fare: min -2.5 null_count 0" "answer:  zero: min 0 null_count 0"
 )
 ran show "$work/typed.parquet"
 case_of "values of logical types that are shown" ended 0 "${typed[@]}"
 ran prune --explain "$work/typed.parquet" "price > 123.45 AND day < '2000-03-01'"
 case_of "values of logical types that are explained" ended 0 "reasons:  price: min -0.05 max 123.45 null_count 0" "reasons:  day: min 1969-12-31 max 2000-02-29 null_count 0" "answer:0 skip 0..3"
+for condition in "fare < -2.5" "fare BETWEEN -4 AND -3" "zero < 0" "short < 0.0625 OR fare IN (-7, -8.5)"; do
+    ran prune "$work/typed.parquet" "$condition"
+    case_of "floats under $condition" ended 0 "answer:0 skip 0..3"
+done
+ran prune "$work/typed.parquet" "fare > 3 AND fare > -4"
+case_of "a float above a number, of which NaN may be" ended 0 "answer:0 read 0..3" "answer:unread: fare > 3"
 ran prune "$work/typed.parquet" "1 = 1 OR day > 5"
 case_of "a number beside a date" ended 2 "reasons:$work/typed.parquet: "
 ran show "$orders"

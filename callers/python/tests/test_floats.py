@@ -159,7 +159,8 @@ class Bounds(unittest.TestCase):
     def test_least_bounds_prune(self) -> None:
         cases = {
             "x < 1.5": Answer.SKIP, "x < 1.51": Answer.READ, "x <= 1.49": Answer.SKIP, "x = 1": Answer.SKIP, "x <> 1": Answer.WHOLE, "x IN (1, -2e3)": Answer.SKIP,
-            "1.5 > x": Answer.SKIP, "NOT (x < 1.5)": Answer.WHOLE, "x IS NULL": Answer.SKIP, "x IS DISTINCT FROM 1": Answer.WHOLE, "x < -1e400": Answer.READ,
+            "1.5 > x": Answer.SKIP, "NOT (x < 1.5)": Answer.WHOLE, "x IS NULL": Answer.SKIP, "x IS DISTINCT FROM 1": Answer.WHOLE, "x < -1e400": Answer.READ, "x BETWEEN 0 AND 1": Answer.SKIP, "x NOT BETWEEN 0 AND 1": Answer.WHOLE,
+            "x BETWEEN SYMMETRIC 1 AND 0": Answer.SKIP, "x BETWEEN 1 AND 2": Answer.READ,
         }
         for physical in (FLOAT, DOUBLE):
             for text, answer in cases.items():
@@ -167,10 +168,10 @@ class Bounds(unittest.TestCase):
 
     def test_greatest_bounds_tell_nothing(self) -> None:
         # NaN may stand above them, and nobody says what a comparison with it means.
-        for text in ("x > 3", "x >= 3", "3 < x", "x BETWEEN 3 AND 4"):
+        for text in ("x > 3", "x >= 3", "3 < x", "x BETWEEN 3 AND NULL"):
             found = pruned(group(1.5, 2.5), text)
             self.assertEqual((list(found), found.unread), ([Answer.READ], (text,)), text)
-        for text in ("x = 3", "x IN (3)", "NOT (x <= 2.5)"):
+        for text in ("x = 3", "x IN (3)", "NOT (x <= 2.5)", "x BETWEEN 3 AND 4"):
             found = pruned(group(1.5, 2.5), text)
             self.assertEqual((list(found), found.unread), ([Answer.READ], ()), text)
 

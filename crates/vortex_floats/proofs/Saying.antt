@@ -14,8 +14,8 @@ use Rattle.vortex_logical.specs.declared.float_test.NanMeaning.TheVariants.{Grea
 use Rattle.vortex_logical.specs.Meaning.{holds}
 use Rattle.vortex_logical.specs.Floats.{bound_of, float_holds, float_test, float_test_holds, ieee_test, infinity_bits, is_nan_bits, key, nan_bits, nan_comparison, sign_bit, signed_key}
 use Rattle.vortex_logical.proofs.FloatTests.{floats_compare, greatest_test_is, ieee_test_is}
-use Rattle.vortex_logical.proofs.Orders.{is_equal, is_greater, is_less}
-use Rattle.vortex_floats.specs.Cells.{CellsStandForFloats, MeaningsAgree, SaysOf, bits_at, cell_test, compared, is_agreed, is_clear, is_told}
+use Rattle.vortex_logical.proofs.Orders.{cases_int, is_equal, is_greater, is_less}
+use Rattle.vortex_floats.specs.Cells.{CellsStandForFloats, MeaningsAgree, RangesAgree, SaysOf, bits_at, cell_test, compared, is_agreed, is_clear, is_told}
 use Rattle.vortex_floats.proofs.CellKeys.{infinity_below_nan, key_of_infinity, key_of_least, key_of_minus_infinity, key_of_nan_bits, key_of_negative, key_of_size}
 
 -- ---- the number of a finite float
@@ -230,3 +230,33 @@ pub meanings_agree : MeaningsAgree
 meanings_agree t c b test h n =
     let says : SaysOf t None c b test = subst (λ (found : Option FloatTest). IfSome found (SaysOf t None c b)) h (compared_says t None c b) in
     says Greatest tt n ∙ sym (says Ieee tt n)
+
+-- ---- ranges
+
+and_false : (x y r : Bool) → r ≡ false → (x && r) ≡ (y && r)
+and_false true true r h = refl
+and_false true false r h = h
+and_false false true r h = sym h
+and_false false false r h = refl
+
+abbrev at_most : ℤ → ℤ → Bool
+at_most n k = holds comparison.Lte (int_cmp n k) && true
+
+-- what is at most a number below NaN's is below NaN's
+range_by : (g : Bool) (n k nan : ℤ) → k <ℤ nan → ((g && true) && at_most n k) ≡ ((g && int_lt n nan) && at_most n k)
+range_by g n k nan below =
+    cases_int n k
+    (λ less. ap (λ z. (g && z) && at_most n k) (sym (is_lt n nan (omega (arith, ints, less, below)))))
+    (λ same. ap (λ z. (g && z) && at_most n k) (sym (is_lt n nan (omega (arith, ints, same, below)))))
+    (λ above. and_false (g && true) (g && int_lt n nan) (at_most n k) (ap (λ o. holds comparison.Lte o && true) (is_greater n k above)))
+
+pub ranges_agree : RangesAgree
+ranges_agree t low high l h n =
+    let a = clear t (key t low) l in
+    let b = clear t (key t high) h in
+    let below : key t high <ℤ pos (nan_bits t) = let top = b.high in let above = infinity_below_nan t in omega (arith, ints) in
+    ap (λ z. z && float_holds Greatest t comparison.Lte (bits_at t n) high) (by_greatest t comparison.Gte low a n)
+    ∙ ap (λ z. float_test_holds n (float_test comparison.Gte (key t low) None) && z) (by_greatest t comparison.Lte high b n)
+    ∙ range_by (holds comparison.Gte (int_cmp n (key t low))) n (key t high) (pos (nan_bits t)) below
+    ∙ sym (ap (λ z. z && float_holds Ieee t comparison.Lte (bits_at t n) high) (by_ieee t comparison.Gte low a n)
+    ∙ ap (λ z. float_test_holds n (float_test comparison.Gte (key t low) (Some (pos (nan_bits t)))) && z) (by_ieee t comparison.Lte high b n))

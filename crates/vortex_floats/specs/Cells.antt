@@ -69,3 +69,9 @@ SaysOf t said c b test = (m : NanMeaning) → Allows said m → (n : ℤ) → fl
 -- where nothing is said of NaN and there is a test, both meanings say the same of each cell
 abbrev pub MeaningsAgree : Type 0
 MeaningsAgree = (t : FloatType) (c : Comparison) (b : ℕ) (test : FloatTest) → compared t None c b ≡ Some test → (n : ℤ) → float_holds Greatest t c (bits_at t n) b ≡ float_holds Ieee t c (bits_at t n) b
+
+-- between two finite floats lies a float under both meanings or under neither: NaN is above the greater one, or compares with none
+abbrev pub RangesAgree : Type 0
+RangesAgree =
+    (t : FloatType) (low high : ℕ) → is_clear t (key t low) ≡ true → is_clear t (key t high) ≡ true → (n : ℤ)
+    → (float_holds Greatest t comparison.Gte (bits_at t n) low && float_holds Greatest t comparison.Lte (bits_at t n) high) ≡ (float_holds Ieee t comparison.Gte (bits_at t n) low && float_holds Ieee t comparison.Lte (bits_at t n) high)

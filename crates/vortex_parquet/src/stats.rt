@@ -318,12 +318,8 @@ fn greatest_of(
 {
     match form {
         Form::Float(_) => Ok(Precision::Absent),
-        Form::Bool
-        | Form::Four(_)
-        | Form::Eight(_)
-        | Form::Utf8
-        | Form::Binary
-        | Form::Decimal => bound_of(alloc, form, bound),
+        Form::Bool | Form::Four(_) | Form::Eight(_) | Form::Utf8 | Form::Binary | Form::Decimal =>
+            bound_of(alloc, form, bound),
     }
 }
 

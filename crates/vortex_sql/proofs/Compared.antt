@@ -50,6 +50,7 @@ use Rattle.vortex_logical.specs.declared.float_test.FloatTest.{FloatTest}
 use Rattle.vortex_logical.specs.declared.float_test.NanMeaning.{NanMeaning}
 use Rattle.vortex_logical.specs.declared.float_type.FloatType.{FloatType}
 use Rattle.vortex_logical.specs.Floats.{below_holds, float_holds}
+use Rattle.vortex_sql.specs.Readings.{ordered}
 use Rattle.vortex_sql.specs.Numbers.{in_type, sized, sized_in, least_of, range_of}
 
 then-equal : (o : Ordering) → ordering_then o Equal ≡ o
@@ -593,6 +594,29 @@ float_compared c t w q z b x None says h = no_truth x.below
 float_compared c t w q z b x (Some (value.Primitive m)) says h =
     bounded x.below (test_holds (number_of m) x.test) m ∙ ap Some (sym (says (meant w) (meant_is_allowed w) (number_of m)))
 float_compared c t w q z b x (Some v) says h = cc
+
+-- a NaN that isn't spoken of is taken as one above all other numbers
+ordered_number : (c : Comparison) (k : Cells) (n : ℤ) (y : Item) → item_holds c (number_item (ordered k) n) y ≡ item_holds c (number_item k n) y
+ordered_number c Values n y = refl
+ordered_number c (Exact t) n y = refl
+ordered_number c (Floats t (Some m)) n y = refl
+ordered_number c (Floats t None) n (truth b) = refl
+ordered_number c (Floats t None) n (exact l b) = refl
+ordered_number c (Floats t None) n (float u m b) = refl
+ordered_number c (Floats t None) n (bits b) = refl
+ordered_number c (Floats t None) n (text b) = refl
+ordered_number c (Floats t None) n (binary b) = refl
+
+ordered_item : (c : Comparison) (k : Cells) (v : ScalarValue) (y : Item) → item_holds c (item_of (ordered k) v) y ≡ item_holds c (item_of k v) y
+ordered_item c k (value.Bool b) y = refl
+ordered_item c k (value.Primitive p) y = ordered_number c k (number_of p) y
+ordered_item c k (value.Utf8 bs) y = refl
+ordered_item c k (value.Binary bs) y = refl
+
+pub ordered_compared : (c : Comparison) (k : Cells) (v : Option ScalarValue) (y : Option Item) → compared c (option_map (item_of (ordered k)) v) y ≡ compared c (option_map (item_of k) v) y
+ordered_compared c k None y = refl
+ordered_compared c k (Some v) None = refl
+ordered_compared c k (Some v) (Some y) = ordered_item c k v y
 
 -- ---- types made nullable
 

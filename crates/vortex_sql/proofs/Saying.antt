@@ -37,7 +37,7 @@ use Rattle.vortex_sql.specs.declared.syntax.tree.ExactNumber.{ExactNumber}
 use Rattle.vortex_sql.specs.declared.typing.KindFit.{KindFit}
 use Rattle.vortex_sql.specs.declared.typing.KindFit.TheVariants.{Same, ByZone, Other as OtherKind}
 use Rattle.vortex_sql.specs.Schemas.{Field, SchemaData, field_at, find_field, listed}
-use Rattle.vortex_sql.specs.Typing.{are_same_cells, beside, kind_fit, kind_of}
+use Rattle.vortex_sql.specs.Typing.{are_same_cells, beside, kind_fit, kind_of, typed_as, typed_by}
 use Rattle.vortex_sql.specs.declared.syntax.tree.Escape.TheVariants as escape
 use Rattle.vortex_sql.specs.declared.syntax.tree.Operand.{Operand}
 use Rattle.vortex_sql.specs.declared.syntax.tree.Operand.TheVariants as operand
@@ -50,10 +50,10 @@ use Rattle.vortex_sql.specs.Sql.{Item, truth, exact, float, bits, text, binary a
 use Rattle.vortex_sql.specs.Numbers.{in_type, sized_in}
 use Rattle.vortex_sql.specs.Halves.{joined, first_of, in_turns, paired}
 use Rattle.vortex_sql.specs.Readings as readings
-use Rattle.vortex_sql.specs.Readings.{Reading, Members, said, unread, literal_of, is_whole, whole_literal, exact_reading, exact_test, testing, of_fit, folded, literals, comparing, constant, exact_literal, in_type_reading, cell_reading, below_reading, float_reading, float_literal, cells_literal, with_literal, with_place, with_operand, from_place, from_literal, compare, compare_typed, joined_by, truth_literal, as_truth, as_null_test, literal_null_test, null_test, distinct_from, distinct_at, distinct_literals, distinct_from_literal, distinct_typed, distinct_test, between_test, with_member, members_from, any_of, member, like_place, pattern_test, reading}
+use Rattle.vortex_sql.specs.Readings.{Reading, Members, said, unread, literal_of, is_whole, whole_literal, exact_reading, exact_test, testing, of_fit, folded, literals, comparing, constant, exact_literal, in_type_reading, cell_reading, below_reading, float_reading, float_literal, cells_literal, with_literal, with_place, with_operand, ordered, ordered_field, at_least, from_place, from_literal, compare, compare_typed, joined_by, truth_literal, as_truth, as_null_test, literal_null_test, null_test, distinct_from, distinct_at, distinct_literals, distinct_from_literal, distinct_typed, distinct_test, between_test, with_member, members_from, any_of, member, like_place, pattern_test, reading}
 use Rattle.vortex_sql.specs.Lowering.{leaf_tree, leaf_truth, opaque_tree, lowered, opaques, opaque_if, has_truth_test, is_true_tree, is_false_tree, truth_on, is_known_as, IsRowOf, Says, with_told, told_cell}
 use Rattle.vortex_sql.proofs.RowCells.{Told, Holds, told, told-left, told-right, column_holds, same_length}
-use Rattle.vortex_sql.proofs.Compared.{cells_of, cells_compared, cell_truth, bounded_truth, float_truth, number_compared, float_compared, same_items, items_flipped, flipped_compared, exact_compared, text_compared, binary_compared, truth_compared, weakened}
+use Rattle.vortex_sql.proofs.Compared.{cells_of, cells_compared, ordered_compared, cell_truth, bounded_truth, float_truth, number_compared, float_compared, same_items, items_flipped, flipped_compared, exact_compared, text_compared, binary_compared, truth_compared, weakened}
 use Rattle.vortex_sql.proofs.Pairs.{one_left}
 
 truth-value : (a : Option Bool) → meanings.truth (truth_value a) ≡ a
@@ -595,10 +595,44 @@ module _ (s : SchemaData) (row more : List Constant) (n : ℕ) (is_row : IsRowOf
 
   -- ---- BETWEEN and LIKE
 
+  -- a column types no column
+  typed_column : (k : Cells) (name : List ℕ) → typed_as k (operand.Column name) ≡ operand.Column name
+  typed_column Values name = refl
+  typed_column (Exact t) name = refl
+  typed_column (Floats t m) name = refl
+
+  typed_by_column : (o : Option Field) (name : List ℕ) → typed_by o (operand.Column name) ≡ operand.Column name
+  typed_by_column None name = refl
+  typed_by_column (Some f) name = typed_column f.cells name
+
+  beside_column : (y : Operand) (name : List ℕ) → beside s y (operand.Column name) ≡ operand.Column name
+  beside_column (operand.Column other) name = typed_by_column (find_field s other) name
+  beside_column y name = refl
+
+  column_stays : (y : Operand) (name : List ℕ) → value_in s row (beside s y (operand.Column name)) ≡ field_value row (find_field s name)
+  column_stays y name = ap (value_in s row) (beside_column y name)
+
+  -- so a range's lower end
+  ordered_says : (name : List ℕ) (o : Option Field) (y : Operand) → find_field s name ≡ o
+      → SaysOf (from_place s comparison.Gte (option_map ordered_field o) y) (compared comparison.Gte (field_value row o) (value_in s row y))
+  ordered_says name None operand.Null is = null_says (compared comparison.Gte None None) refl
+  ordered_says name None y is = λ e q. cc
+  ordered_says name (Some f) y is =
+      let h = field_holds name f is in
+      λ e q. operand_says comparison.Gte (ordered_field f) y h e q
+      ∙ ap truth_value (ordered_compared comparison.Gte f.cells h.value (value_in s row y))
+      ∙ ap (λ v. truth_value (compared comparison.Gte (option_map (item_of f.cells) v) (value_in s row y))) (sym h.on_row)
+
+  at_least_says : (x l y : Operand) → SaysOf (at_least s x l y) (compared_on s row comparison.Gte x l)
+  at_least_says (operand.Column name) l (operand.Float b) =
+      λ e q. ordered_says name (find_field s name) (beside s (operand.Column name) l) refl e q
+      ∙ ap (λ v. truth_value (compared comparison.Gte v (value_in s row (beside s (operand.Column name) l)))) (sym (column_stays l name))
+  at_least_says x l y = compare_says comparison.Gte x l
+
   between_says : (x l u : Operand) → SaysOf (between_test s x l u) (within_on s row x l u)
   between_says x l u =
-      and_says (compare s comparison.Gte x l) (compare s comparison.Lte x u) (compared_on s row comparison.Gte x l) (compared_on s row comparison.Lte x u)
-      (compare_says comparison.Gte x l) (compare_says comparison.Lte x u)
+      and_says (at_least s x l (beside s x u)) (compare s comparison.Lte x u) (compared_on s row comparison.Gte x l) (compared_on s row comparison.Lte x u)
+      (at_least_says x l (beside s x u)) (compare_says comparison.Lte x u)
 
   like_says : (name bs : List ℕ) (o : Option Field) → find_field s name ≡ o → SaysOf (like_place o bs) (liked (field_value row o) (Some (text bs)))
   like_says name bs None is = λ e q. cc

@@ -1,5 +1,5 @@
 -- What is said of a test: an expression, nothing, or that the types of its operands don't fit.
-use Rattle.std.specs.Prelude.{◌≡◌, ◌==◌, ◌&&◌, ℕ, ℤ, ◌++◌, Bool, true, false, nat_le, Option, Some, None, List, [], ◌∷◌, Result, Ok, Err, if◌then◌else◌, MatchResult, is_none, is_some}
+use Rattle.std.specs.Prelude.{◌≡◌, ◌==◌, ◌&&◌, ℕ, ℤ, ◌++◌, Bool, true, false, nat_le, Option, Some, None, List, [], ◌∷◌, Result, Ok, Err, if◌then◌else◌, MatchResult, is_none, is_some, option_map}
 use Rattle.std.specs.declared.cmp.Ordering.{Ordering}
 use Rattle.vortex_base.specs.declared.types.PType.{PType}
 use Rattle.vortex_base.specs.declared.types.Nullability.TheVariants.{Nullable, NonNullable}
@@ -18,6 +18,7 @@ use Rattle.vortex_floats.specs.Cells.{compared as float_compared}
 use Rattle.vortex_logical.specs.declared.float_type.FloatType.{FloatType}
 use Rattle.vortex_logical.specs.declared.float_test.FloatTest.{FloatTest}
 use Rattle.vortex_logical.specs.declared.float_test.NanMeaning.{NanMeaning}
+use Rattle.vortex_logical.specs.declared.float_test.NanMeaning.TheVariants.{Greatest}
 use Rattle.vortex_logical.specs.declared.logical_type.LogicalType.{LogicalType}
 use Rattle.vortex_base.specs.declared.pvalue.PValue.{PValue}
 use Rattle.vortex_sql.specs.declared.cells.Cells.{Cells}
@@ -296,8 +297,23 @@ distinct_typed s x y = distinct_from_literal s x y
 abbrev pub distinct_test : SchemaData → Operand → Operand → Reading
 distinct_test s x y = distinct_typed s (beside s y x) (beside s x y)
 
+-- where it isn't said what a NaN means it is above all other numbers, as in what a test means
+abbrev pub ordered : Cells → Cells
+ordered (Floats x None) = Floats x (Some Greatest)
+ordered (Floats x (Some m)) = Floats x (Some m)
+ordered Values = Values
+ordered (Exact l) = Exact l
+
+abbrev pub ordered_field : Field → Field
+ordered_field f = record f { cells = ordered f.cells }
+
+-- x is at least the lower end of a range, whose upper end is given as x types it: below a float both meanings of NaN say the same of the range
+abbrev pub at_least : SchemaData → Operand → Operand → Operand → Reading
+at_least s (operand.Column name) l (operand.Float b) = from_place s comparison.Gte (option_map ordered_field (find_field s name)) (beside s (operand.Column name) l)
+at_least s x l y = compare s comparison.Gte x l
+
 abbrev pub between_test : SchemaData → Operand → Operand → Operand → Reading
-between_test s x l u = joined_by operator.And (compare s comparison.Gte x l) (compare s comparison.Lte x u)
+between_test s x l u = joined_by operator.And (at_least s x l (beside s x u)) (compare s comparison.Lte x u)
 
 abbrev pub symmetric_test : SchemaData → Operand → Operand → Operand → Reading
 symmetric_test s x l u = joined_by operator.Or (between_test s x l u) (between_test s x u l)

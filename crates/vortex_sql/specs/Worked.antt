@@ -37,7 +37,7 @@ use Rattle.vortex_sql.specs.declared.syntax.tree.Test.{Test}
 use Rattle.vortex_sql.specs.declared.syntax.tree.Test.TheVariants as test
 use Rattle.vortex_sql.specs.Sql as sql
 use Rattle.vortex_sql.specs.Sql.{item_cmp, distinct, flipped, test_truth, pattern_in}
-use Rattle.vortex_sql.specs.Readings.{Reading, bool_or_null, said, unread, reading, truth_literal}
+use Rattle.vortex_sql.specs.Readings.{Reading, bool_or_null, ordered, said, unread, reading, truth_literal}
 use Rattle.vortex_sql.specs.Lowering.{is_known_as, leaf_column, leaf_name}
 use Rattle.vortex_sql.specs.Refusals.{is_fit, wide_scope}
 use Rattle.vortex_sql.specs.Schemas.{SchemaData, plain_schema}
@@ -483,6 +483,10 @@ pub record FloatReadings : Type 0 where
   pub too_long : reading measured (test.Compare Lt x (number_of kind.Number (pos 1) 34)) ≡ unread
   pub two_columns : reading measured (test.Compare Lt x x) ≡ unread
   pub null_test : reading measured (test.IsNull x) ≡ said (is_null (here 0 i64))
+  pub between : reading measured (test.Between x (Float one_and_half) (Float one_and_half)) ≡ said (binary operator.And (i64_is 0 operator.Gte (pos 4_609_434_218_613_702_656)) (i64_is 0 operator.Lte (pos 4_609_434_218_613_702_656)))
+  pub between_ieee : reading measured (test.Between i (Float one_and_half) (Float one_and_half)) ≡ said (binary operator.And (binary operator.And (i64_is 2 operator.Gte (pos 4_609_434_218_613_702_656)) (i64_is 2 operator.Lt (pos 9_221_120_237_041_090_560))) (i64_is 2 operator.Lte (pos 4_609_434_218_613_702_656)))
+  pub between_null : reading measured (test.Between x (Float one_and_half) Null) ≡ unread
+  pub between_nan : reading measured (test.Between x (Float one_and_half) (Float not_a_number)) ≡ unread
   pub number : nearest_over float.F64 (pos 15) 1 ≡ Some one_and_half → reading measured (test.Compare Lt x (half (pos 15))) ≡ said (i64_is 0 operator.Lt (pos 4_609_434_218_613_702_656))
   pub no_float : nearest_over float.F64 (pos 15) 1 ≡ None → reading measured (test.Compare Lt x (half (pos 15))) ≡ unread
 
@@ -502,6 +506,10 @@ pub record FloatCells : Type 0 where
   pub values : are_same_cells cells.Values cells.Values ≡ true
   pub cell : sql.item_of (cells.Floats float.F64 None) (value.Primitive (number.I64 (pos 7))) ≡ sql.float float.F64 None 7
   pub below_zero : sql.item_of (cells.Floats float.F64 None) (value.Primitive (number.I64 (negsuc 1))) ≡ sql.float float.F64 None 9_223_372_036_854_775_809
+  pub ordered_unsaid : ordered (cells.Floats float.F32 None) ≡ cells.Floats float.F32 (Some nan.Greatest)
+  pub ordered_said : ordered (cells.Floats float.F32 (Some nan.Ieee)) ≡ cells.Floats float.F32 (Some nan.Ieee)
+  pub ordered_values : ordered cells.Values ≡ cells.Values
+  pub ordered_dates : ordered (cells.Exact logical.Date) ≡ cells.Exact logical.Date
   pub unsaid : sql.meant None ≡ nan.Greatest
   pub meant : sql.meant (Some nan.Ieee) ≡ nan.Ieee
   pub literal : sql.value_in measured [] (Float 5) ≡ Some (sql.bits 5)

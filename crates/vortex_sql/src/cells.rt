@@ -1,5 +1,6 @@
 //! What the cells of a column stand for.
 ghost use Rattle.std.specs.Prelude.{◌≡◌};
+ghost use Rattle.vortex_sql.specs.Readings.{ordered};
 ghost use Rattle.vortex_sql.specs.Typing as spec;
 
 use vortex_logical::float_test::NanMeaning;
@@ -26,6 +27,16 @@ impl Cells {
         match self {
             Cells::Exact(logical) => Some(logical),
             Cells::Values | Cells::Floats(_, _) => None,
+        }
+    }
+
+    /// Returns the same cells with NaN above all other numbers, where nothing is said of it.
+    pub(crate) fn ordered(self) -> Cells
+        ensures { result ≡ ordered self }
+    {
+        match self {
+            Cells::Floats(float, None) => Cells::Floats(float, Some(NanMeaning::Greatest)),
+            _ => self,
         }
     }
 }

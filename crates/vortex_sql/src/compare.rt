@@ -162,9 +162,7 @@ fn with_place(
     let Some(other) = other else {
         return Ok(None);
     };
-    if found.dtype.eq_ignore_nullability(&other.dtype)
-        && are_same_cells(found.cells, other.cells)
-    {
+    if found.dtype.eq_ignore_nullability(&other.dtype) && are_same_cells(found.cells, other.cells) {
         let right = column(alloc, other)?;
         comparing(alloc, comparison, found, right)
     } else if are_numbers(found.dtype, other.dtype) {
@@ -190,7 +188,8 @@ fn with_operand(
     }
 }
 
-fn from_place(
+/// Says a comparison of a column, if it was found, with an operand that it types.
+pub(crate) fn from_place(
     alloc: Global,
     schema: &Schema,
     comparison: Comparison,

@@ -50,7 +50,7 @@ fn tested(
 ) -> Result<Option<BoundExpression>, Fault>
     ensures { spec.Reads (spec.below_reading test.below (spec.place_of_found found) ptype
         found.dtype (spec.cell_reading test.test.comparison test.test.number
-            (spec.place_of_found found) ptype found.dtype)) result }
+        (spec.place_of_found found) ptype found.dtype)) result }
 {
     let said = with_number(alloc, test.test.comparison, test.test.number, found, ptype)?;
     match test.below {

@@ -4,7 +4,7 @@ ghost use Rattle.vortex_sql.specs.declared.fault.Fault.TheVariants.{Memory, Misf
 ghost use Rattle.vortex_sql.specs.Readings as spec;
 
 use crate::column::column;
-use crate::compare::{compare, with_literal};
+use crate::compare::{compare, from_place, with_literal};
 use crate::fault::Fault;
 use crate::found::Found;
 use crate::halves::joined;
@@ -139,6 +139,48 @@ fn distinct(
     distinct_typed(alloc, schema, left, right)
 }
 
+// Says that an operand is at least the lower end of a range, whose upper end is given as the operand
+// types it. Both meanings of NaN say the same of a range that ends at a float.
+fn at_least(
+    alloc: Global,
+    schema: &Schema,
+    x: &Operand,
+    lower: &Operand,
+    upper: &Operand,
+) -> Result<Option<BoundExpression>, Fault>
+    ensures { spec.Reads (spec.at_least schema.now x.now lower.now upper.now) result }
+{
+    match (x, upper) {
+        (Operand::Column(name), Operand::Float(_)) => {
+            let typed = typed_by(alloc, schema, x, lower)?;
+            let found = ordered(schema.find(name));
+            from_place(
+                alloc,
+                schema,
+                Comparison::Gte,
+                found,
+                typed_or(&typed, lower),
+            )
+        }
+        _ => compare(alloc, schema, Comparison::Gte, x, lower),
+    }
+}
+
+// Returns a column in whose comparisons NaN is above all other numbers, where nothing is said of it.
+fn ordered(found: Option<Found>) -> Option<Found>
+    ensures { option_map spec.field_of_found result
+        ≡ option_map spec.ordered_field (option_map spec.field_of_found found) }
+{
+    match found {
+        Some(found) => Some(Found {
+            index: found.index,
+            dtype: found.dtype,
+            cells: found.cells.ordered(),
+        }),
+        None => None,
+    }
+}
+
 fn between(
     alloc: Global,
     schema: &Schema,
@@ -148,7 +190,8 @@ fn between(
 ) -> Result<Option<BoundExpression>, Fault>
     ensures { spec.Reads (spec.between_test schema.now x.now lower.now upper.now) result }
 {
-    let left = compare(alloc, schema, Comparison::Gte, x, lower)?;
+    let typed = typed_by(alloc, schema, x, upper)?;
+    let left = at_least(alloc, schema, x, lower, typed_or(&typed, upper))?;
     let right = compare(alloc, schema, Comparison::Lte, x, upper)?;
     joined_by(alloc, Operator::And, left, right)
 }

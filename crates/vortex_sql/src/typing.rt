@@ -127,11 +127,7 @@ fn float_beside(
 }
 
 // Returns what a number is beside a column of floats.
-fn typed_number(
-    alloc: Global,
-    float: FloatType,
-    number: ExactNumber,
-) -> Result<Operand, AllocError>
+fn typed_number(alloc: Global, float: FloatType, number: ExactNumber) -> Result<Operand, AllocError>
     ensures { IfOk result (λ typed. typed ≡ spec.typed_number float number) }
 {
     if !matches!(kind_fit(number.kind, ExactKind::Number), KindFit::Same) {
@@ -144,11 +140,7 @@ fn typed_number(
 }
 
 // Returns an operand as cells of a kind type it, or `None` where it stays as it is.
-fn typed_as(
-    alloc: Global,
-    cells: Cells,
-    operand: &Operand,
-) -> Result<Option<Operand>, AllocError>
+fn typed_as(alloc: Global, cells: Cells, operand: &Operand) -> Result<Option<Operand>, AllocError>
     ensures { IfOk result (λ typed. unwrap_or typed operand.now ≡ spec.typed_as cells operand.now) }
 {
     match (cells, operand) {
