@@ -112,7 +112,7 @@ fn scope_given(alloc: Global, kinds: Kinds, fields: &[Field<'_>]) -> Result<Scop
     Ok(Scope::new_unchecked(columns.into_vec()).try_shared(alloc)?)
 }
 
-// What the values of the columns stand for.
+// Tells what the values of each column stand for.
 fn all_cells(alloc: Global, fields: &[Field<'_>]) -> Result<Vec<Cells>, Refusal>
     ensures { Answers (λ cells. cells.items) result (Ok (map cells_told fields.now)) }
 {

@@ -128,7 +128,7 @@ pub(crate) fn logical_of(field: &Field<'_>) -> Result<Option<LogicalType>, Statu
     }
 }
 
-/// What the values of a column stand for, which isn't refused.
+/// Tells what the values of a column stand for, which isn't refused.
 pub(crate) fn cells_told(field: &Field<'_>) -> Cells
     ensures { result ≡ spec.cells_told field.now }
 {

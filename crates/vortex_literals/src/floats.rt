@@ -20,8 +20,7 @@ fn bits_of(number: f64) -> u64
 pub fn read_float64(text: &[u8]) -> Option<u64>
     ensures float { MatchOption result (parse_float binary64 text.now ≡ None)
         (λ bits. parse_float binary64 text.now ≡ Some (of_bits binary64 bits)) }
-    ensures bits {
-        result ≡ option_map (float_bits binary64 nan64) (parse_float binary64 text.now) }
+    ensures bits { result ≡ option_map (float_bits binary64 nan64) (parse_float binary64 text.now) }
 {
     match fast_float::parse::<f64, _>(text) {
         Ok(number) => Some(bits_of(number)),

@@ -50,7 +50,7 @@ use Rattle.vortex_sql.specs.Sql.{Item, truth, exact, float, bits, text, binary a
 use Rattle.vortex_sql.specs.Numbers.{in_type, sized_in}
 use Rattle.vortex_sql.specs.Halves.{joined, first_of, in_turns, paired}
 use Rattle.vortex_sql.specs.Readings as readings
-use Rattle.vortex_sql.specs.Readings.{Reading, Members, said, unread, literal_of, is_whole, whole_literal, exact_reading, exact_test, testing, of_fit, folded, literals, comparing, constant, exact_literal, in_type_reading, cell_reading, below_reading, float_reading, float_literal, cells_literal, with_literal, with_place, with_operand, ordered, ordered_field, at_least, from_place, from_literal, compare, compare_typed, joined_by, truth_literal, as_truth, as_null_test, literal_null_test, null_test, distinct_from, distinct_at, distinct_literals, distinct_from_literal, distinct_typed, distinct_test, between_test, with_member, members_from, any_of, member, like_place, pattern_test, reading}
+use Rattle.vortex_sql.specs.Readings.{Reading, Members, said, unread, literal_of, is_whole, whole_literal, exact_reading, exact_test, testing, of_fit, folded, literals, comparing, constant, exact_literal, in_type_reading, cell_reading, below_reading, float_reading, float_literal, cells_literal, with_literal, with_place, with_operand, ordered_field, at_least, from_place, from_literal, compare, compare_typed, joined_by, truth_literal, as_truth, as_null_test, literal_null_test, null_test, distinct_from, distinct_at, distinct_literals, distinct_from_literal, distinct_typed, distinct_test, between_test, with_member, members_from, any_of, member, like_place, pattern_test, reading}
 use Rattle.vortex_sql.specs.Lowering.{leaf_tree, leaf_truth, opaque_tree, lowered, opaques, opaque_if, has_truth_test, is_true_tree, is_false_tree, truth_on, is_known_as, IsRowOf, Says, with_told, told_cell}
 use Rattle.vortex_sql.proofs.RowCells.{Told, Holds, told, told-left, told-right, column_holds, same_length}
 use Rattle.vortex_sql.proofs.Compared.{cells_of, cells_compared, ordered_compared, cell_truth, bounded_truth, float_truth, number_compared, float_compared, same_items, items_flipped, flipped_compared, exact_compared, text_compared, binary_compared, truth_compared, weakened}

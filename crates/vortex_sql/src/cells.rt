@@ -1,4 +1,4 @@
-//! What the cells of a column stand for.
+//! The meaning of the cells of a column.
 ghost use Rattle.std.specs.Prelude.{◌≡◌};
 ghost use Rattle.vortex_sql.specs.Readings.{ordered};
 ghost use Rattle.vortex_sql.specs.Typing as spec;

@@ -1,5 +1,4 @@
 //! Comparisons of columns of floats.
-ghost use Rattle.std.specs.Prelude.{◌≡◌};
 ghost use Rattle.vortex_floats.specs.Cells as cells;
 ghost use Rattle.vortex_sql.specs.Readings as spec;
 

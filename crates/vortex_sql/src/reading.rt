@@ -139,8 +139,8 @@ fn distinct(
     distinct_typed(alloc, schema, left, right)
 }
 
-// Says that an operand is at least the lower end of a range, whose upper end is given as the operand
-// types it. Both meanings of NaN say the same of a range that ends at a float.
+// Says that an operand is at least the lower end of a range, whose upper end is given as it types
+// it. Both meanings of NaN say the same of a range that ends at a float.
 fn at_least(
     alloc: Global,
     schema: &Schema,
@@ -166,7 +166,8 @@ fn at_least(
     }
 }
 
-// Returns a column in whose comparisons NaN is above all other numbers, where nothing is said of it.
+// Returns a column in whose comparisons NaN is above all other numbers, where nothing is said of
+// NaN.
 fn ordered(found: Option<Found>) -> Option<Found>
     ensures { option_map spec.field_of_found result
         ≡ option_map spec.ordered_field (option_map spec.field_of_found found) }

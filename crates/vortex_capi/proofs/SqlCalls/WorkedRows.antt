@@ -1,5 +1,5 @@
 -- Worked rows, found by computation alone, and witnesses of the clauses with premises.
-use Rattle.std.proofs.Common.{◌≡◌, ◌+◌, ℕ, List, [], ◌∷◌, Bor, None, Ok, Option, Some, Err, ap, arith, length, map, refl, ◌∙◌}
+use Rattle.std.proofs.Common.{◌≡◌, ◌+◌, ℕ, List, [], ◌∷◌, Bor, Ok, Err, ap, arith, length, map, refl, ◌∙◌}
 use Rattle.std.specs.Prelude.{drop}
 use Rattle.std.proofs.lemmas.List.{length-append, length-map}
 use Rattle.vortex_base.specs.declared.dtype.DType.{DType}
