@@ -85,7 +85,7 @@ python_run() {
 }
 python_tests() {
     python_run "$1" -W error -m unittest -q tests.test_predicate tests.test_reading tests.test_files tests.test_footers tests.test_random \
-        tests.test_prune tests.test_frames tests.test_library tests.test_docs tests.test_filters tests.test_sqlite tests.test_sql_types
+        tests.test_prune tests.test_frames tests.test_library tests.test_docs tests.test_filters tests.test_sqlite tests.test_sql_types tests.test_floats
     python_run "$1" examples/footers.py
 }
 python_has() { "$1" -c "import $2" 2> /dev/null; }

@@ -30,8 +30,8 @@ BY_TESTS = {"always Memory"}
 def file_of_edit(place):
     """The file of an edit, named by its crate and name, or None."""
     crate, _, name = place.removeprefix("edit:").partition("/")
-    found = (f"checks/edits/{crate}/{name}", f"crates/{crate}/must-fail/{name}")
-    return next((it for it in found if it in sources.tracked()), None)
+    found = f"checks/edits/{crate}/{name}"
+    return found if found in sources.tracked() else None
 
 
 def file_of_test(place):
@@ -129,7 +129,7 @@ def may_change(row):
     for it in [*row["row"], *row["test"]]:
         if it.startswith("edit:"):
             crate, _, name = it.removeprefix("edit:").partition("/")
-            paths |= {f"checks/edits/{crate}/{name}", f"crates/{crate}/must-fail/{name}"}
+            paths.add(f"checks/edits/{crate}/{name}")
         elif "#" in it:
             crate, _, rest = it.partition(":")
             paths.add(f"crates/{crate}/{rest.partition('#')[0]}.antt")

@@ -184,6 +184,33 @@ fn bounds_of_another_length_are_left_out() {
 }
 
 #[test]
+fn floats_are_compared_by_their_least_bounds() {
+    let schema = vec![element("schema", None, 0, Some(1)), element("x", Some(5), 0, None)];
+    let (least, greatest) = (1.5_f64.to_le_bytes().to_vec(), 2.5_f64.to_le_bytes().to_vec());
+    let columns = List(vec![chunk(5, Some((least, greatest)), 0, 1)]);
+    let footer = Footer::from_bytes(footer(schema, 1, vec![Fields(vec![(1, columns), (3, Number(1))])]));
+    let cases = [
+        ("x < 1.5", Answer::Skip),
+        ("x <= 1.5", Answer::Read),
+        ("x IN (1, 0.5)", Answer::Skip),
+        ("x BETWEEN -1 AND 1.25", Answer::Skip),
+        ("x <> 1", Answer::Whole),
+        ("NOT x < 1.5", Answer::Whole),
+        // NaN is left out of the bounds, and may stand above the greatest one.
+        ("x = 3", Answer::Read),
+        ("NOT x <= 2.5", Answer::Read),
+    ];
+    for (text, answer) in cases {
+        let found = footer.prune(text, Names::Plain).unwrap();
+        assert_eq!((found.groups[0].answer, found.unread.len()), (answer, 0), "{text}");
+    }
+    // Nothing says whether NaN is above a number.
+    let found = footer.prune("x > 3", Names::Plain).unwrap();
+    assert_eq!((found.groups[0].answer, found.unread), (Answer::Read, vec![0..5]));
+    assert!(matches!(footer.prune("x < TRUE", Names::Plain), Err(Error::Sql(_))));
+}
+
+#[test]
 fn columns_of_which_no_test_could_be_meant_are_told() {
     let schema = vec![
         element("schema", None, 0, Some(4)),

@@ -35,6 +35,7 @@ form_storable name (form.Eight p) n = refl
 form_storable name form.Utf8 n = refl
 form_storable name form.Binary n = refl
 form_storable name form.Decimal n = refl
+form_storable name (form.Float t) n = refl
 
 -- ---- tests of contents
 
