@@ -191,6 +191,19 @@ class MoreRowsThanSixtyFourBits(unittest.TestCase):
         found = parquet.RowRanges(Answers([0, 1, 2]), [0, 1, 2], [0, 0, 0], [most, most, most])
         self.assertEqual((found.ranges(), found.rows_skipped), ([(0, most), (2 * most, 3 * most)], most))
 
+    def test_row_groups_of_most_rows_are_pruned_by_pages(self) -> None:
+        most = 2**63 - 1
+
+        def group(number: int) -> Raw:
+            bound = number.to_bytes(8, "little")
+            told = Raw(struct_of((3, Wide(0)), (5, bound), (6, bound)))
+            return Raw(struct_of((1, [Raw(struct_of((3, Raw(struct_of((1, 2), (12, told))))))]), (3, Wide(most))))
+
+        elements = [Raw(struct_of((4, b"root"), (5, 1))), Raw(struct_of((1, 2), (3, 1), (4, b"n")))]
+        file = parquet.File(struct_of((2, elements), (4, [group(3), group(7), group(4)]), (7, [Raw(thrift((1, Raw(thrift()))))])))
+        found = file.prune_pages("n > 5")
+        self.assertEqual((found.ranges(), found.rows_skipped), ([(most, 2 * most)], 2 * most))
+
 
 class DataPagesBesideAModel(unittest.TestCase):
     @settings(max_examples=EXAMPLES, deadline=None)
