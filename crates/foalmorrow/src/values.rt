@@ -3,6 +3,7 @@ use jiff::Timestamp;
 use jiff::civil::{DateTime, date};
 use jiff::tz::Offset;
 use std::alloc::{AllocError, Global};
+use std::num::{f32_from_bits_with_nan, f64_from_bits_with_nan};
 use vortex_base::pvalue::PValue;
 use vortex_base::scalar_value::ScalarValue;
 use vortex_floats::cells::bits_at;
@@ -88,11 +89,11 @@ fn float_text(alloc: Global, float: FloatType, number: i64) -> Result<String, Al
     match float {
         FloatType::F16 => format!(in alloc; "{number}"),
         FloatType::F32 => {
-            let value = f32::from_bits(bits as u32);
+            let value = f32_from_bits_with_nan(bits as u32);
             format!(in alloc; "{value}")
         }
         FloatType::F64 => {
-            let value = f64::from_bits(bits);
+            let value = f64_from_bits_with_nan(bits);
             format!(in alloc; "{value}")
         }
     }
