@@ -158,7 +158,7 @@ class BesideAModel(unittest.TestCase):
 class Bounds(unittest.TestCase):
     def test_least_bounds_prune(self) -> None:
         cases = {
-            "x < 1.5": Answer.SKIP, "x < 1.51": Answer.READ, "x <= 1.49": Answer.SKIP, "x = 1": Answer.SKIP, "x <> 1": Answer.WHOLE, "x IN (1, -2e3)": Answer.SKIP,
+            "x < 1.5": Answer.SKIP, "x < 1.5625": Answer.READ, "x <= 1.46875": Answer.SKIP, "x = 1": Answer.SKIP, "x <> 1": Answer.WHOLE, "x IN (1, -2e3)": Answer.SKIP,
             "1.5 > x": Answer.SKIP, "NOT (x < 1.5)": Answer.WHOLE, "x IS NULL": Answer.SKIP, "x IS DISTINCT FROM 1": Answer.WHOLE, "x < -1e400": Answer.READ, "x BETWEEN 0 AND 1": Answer.SKIP, "x NOT BETWEEN 0 AND 1": Answer.WHOLE,
             "x BETWEEN SYMMETRIC 1 AND 0": Answer.SKIP, "x BETWEEN 1 AND 2": Answer.READ,
         }
