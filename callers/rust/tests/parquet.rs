@@ -206,7 +206,8 @@ fn floats_are_compared_by_their_least_bounds() {
     }
     // Nothing says whether NaN is above a number.
     let found = footer.prune("x > 3", Names::Plain).unwrap();
-    assert_eq!((found.groups[0].answer, found.unread), (Answer::Read, vec![0..5]));
+    assert_eq!((found.groups[0].answer, found.unread.len()), (Answer::Read, 1));
+    assert_eq!(found.unread[0], 0..5);
     assert!(matches!(footer.prune("x < TRUE", Names::Plain), Err(Error::Sql(_))));
 }
 
