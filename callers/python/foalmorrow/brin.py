@@ -32,25 +32,31 @@ from .types import Date, Decimal, Timestamp, Unmapped, Uuid
 Query = Callable[[str], list[list[str | None]]]
 
 
+class _Open:
+    """A type of the server with values that have no number here. The library's SQL doesn't know it: it would take a literal past the numbers for one
+    that no value reaches.
+    """
+
+    is_open = True
+
+    @property
+    def field(self) -> None:
+        return None
+
+
 @dataclass(frozen=True)
-class _Date(Date):
+class _Date(_Open, Date):
     """A date, or infinity."""
 
-    is_open = True
-
 
 @dataclass(frozen=True)
-class _Timestamp(Timestamp):
+class _Timestamp(_Open, Timestamp):
     """An instant, infinity, or an instant of the last 29 years that the server has, which have no number here."""
 
-    is_open = True
-
 
 @dataclass(frozen=True)
-class _Decimal(Decimal):
+class _Decimal(_Open, Decimal):
     """A decimal number, or NaN."""
-
-    is_open = True
 
 
 _TYPES: dict[str, DType | Logical] = {"smallint": DType.I16, "integer": DType.I32, "bigint": DType.I64, "bytea": DType.BINARY}
