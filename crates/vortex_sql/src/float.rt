@@ -61,7 +61,7 @@ fn tested(
     }
 }
 
-// What a column's floats are, and what a comparison with NaN means.
+// The type of a column's floats, and the meaning of a comparison with NaN.
 type Floats = (FloatType, Option<NanMeaning>);
 
 // Says a comparison with a float by its bits.
